@@ -1,0 +1,4 @@
+pub mod Ring
+pub mod Lines
+pub mod Sheets
+pub mod Run

@@ -1,0 +1,42 @@
+-- What the rules ask of a ring's numbers, for every port's params: proved by cases on their enums, so that no port has to keep numbers that fit.
+use mathlib.Core.Path.{_≡_, refl}
+use Prim.Native.Nat.{ℕ, _+_, _*_, _%_, _≤_, _<_}
+use native.Mathlib.Omega.{arith}
+use Rattle.model.specs.Base.{modulus}
+use Rattle.model.specs.Buffers.{pageShare}
+use Rattle.model.specs.Ring.{Ring, headerSize, layoutOf, ringOf}
+use Rattle.model.specs.Port.{busyBits}
+use Rattle.model.specs.Checks.{maxSegments}
+use Rattle.model.specs.declared.Abi.{Abi}
+use Rattle.model.specs.declared.Params.{Params}
+
+pub record Fits (g : Ring) : Type 0 where
+  -- there is a slot, indices modulo 2^32 keep their slots, and each slot has a mark
+  pub some : 0 < g .size
+  pub whole : modulus % g .size ≡ 0
+  pub marked : g .size ≤ busyBits
+  -- the slots end within the page
+  pub room : headerSize + g .layout .slotSize * g .size ≤ pageShare
+  -- a request's fields and a response end within the slot
+  pub idRoom : g .layout .idAt + 8 ≤ g .layout .slotSize
+  pub startRoom : g .layout .startAt + 8 ≤ g .layout .slotSize
+  pub segmentRoom : g .layout .segmentsAt + 8 * maxSegments ≤ g .layout .slotSize
+  pub statusRoom : 12 ≤ g .layout .responseSize
+  pub responseRoom : g .layout .responseSize ≤ g .layout .slotSize
+
+fits-abi : (a : Abi) → Fits (record { layout = layoutOf a; size = 32 })
+fits-abi Abi.Bits64 = record {
+  some = omega arith;
+  whole = refl;
+  marked = omega arith;
+  room = omega arith;
+  idRoom = omega arith;
+  startRoom = omega arith;
+  segmentRoom = omega arith;
+  statusRoom = omega arith;
+  responseRoom = omega arith;
+}
+
+pub fits : (p : Params) → Fits (ringOf p)
+unfolding ringOf
+fits p = fits-abi (p .abi)

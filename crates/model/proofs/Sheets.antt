@@ -1,0 +1,143 @@
+-- Node sheets on both sides of each refusal, computed.
+use mathlib.Core.Path.{_≡_, refl}
+use mathlib.Core.Bool.{true, false}
+use mathlib.Core.List.{List, [], _∷_, _++_, map}
+use Prim.Native.Nat.{ℕ, _%_, _/_}
+use lib.ListN.{length, replicate}
+use Rattle.wire.specs.LittleEndian.{load}
+use Rattle.wire.specs.Part.{part}
+use Rattle.model.specs.Base.{all, same}
+use Rattle.model.specs.NodeSheet.{Entry, entryAt, bodyLength, entriesFrom, entriesOf, bodiesEnd, wellFormed, rising, isDigit, digitsFrom, capped, digitsOf, numberOf, modeBody, featureBody, numberBody, isSectorSize, protocolBody, bodyOf, afterBody, afterBodies, valueOf, present, paramsOf, hasRequired, sheetOf}
+use Rattle.model.specs.declared.Abi.{Abi}
+use Rattle.model.specs.declared.Params.{Params}
+use Rattle.model.specs.declared.SectorSize.{SectorSize}
+use Rattle.model.specs.declared.Sheet.{Sheet}
+
+-- ---- how a sheet is laid out
+
+abbrev node : ℕ → List ℕ → Entry
+node n body = record { node = n; reserved = 0; body = body }
+
+contents : List Entry → List ℕ
+contents [] = []
+contents (e ∷ es) = e .node ∷ e .reserved ∷ length (e .body) % 256 ∷ length (e .body) / 256 ∷ contents es
+
+bodies : List Entry → List ℕ
+bodies [] = []
+bodies (e ∷ es) = e .body ++ bodies es
+
+-- the sheet that has these entries
+laid : List Entry → List ℕ
+laid es = length es ∷ contents es ++ bodies es
+
+-- mode "w", sector-size "512", sectors "2008"
+abbrev writable : Entry
+writable = node 1 (119 ∷ [])
+
+abbrev size512 : Entry
+size512 = node 6 (53 ∷ 49 ∷ 50 ∷ [])
+
+abbrev sectors2008 : Entry
+sectors2008 = node 7 (50 ∷ 48 ∷ 48 ∷ 56 ∷ [])
+
+-- ---- the sheets
+
+-- a sheet, and the number that it is refused with
+record Judged : Type 0 where
+  number : ℕ
+  sheet : List ℕ
+
+abbrev judged : ℕ → List ℕ → Judged
+judged n s = record { number = n; sheet = s }
+
+refused : List Judged
+refused =
+    -- "sheet empty"
+    judged 11 []
+    -- "more than 9 entries"
+    ∷ judged 11 (10 ∷ replicate 40 0)
+    -- a table of contents that is cut short
+    ∷ judged 11 (3 ∷ 1 ∷ 0 ∷ [])
+    -- "non-zero reserved byte", before any 12
+    ∷ judged 11 (laid (size512 ∷ record { node = 1; reserved = 1; body = [] } ∷ []))
+    -- "wrong total length": a byte too many
+    ∷ judged 11 (laid (writable ∷ size512 ∷ sectors2008 ∷ []) ++ (0 ∷ []))
+    -- a byte too few
+    ∷ judged 11 (1 ∷ 1 ∷ 0 ∷ 1 ∷ 0 ∷ [])
+    -- "node 0"
+    ∷ judged 12 (laid (node 0 [] ∷ writable ∷ size512 ∷ sectors2008 ∷ []))
+    -- "above 9"
+    ∷ judged 12 (laid (writable ∷ size512 ∷ sectors2008 ∷ node 10 [] ∷ []))
+    -- "or not rising": equal nodes, before a faulty body
+    ∷ judged 12 (laid (node 1 [] ∷ writable ∷ size512 ∷ sectors2008 ∷ []))
+    -- falling nodes
+    ∷ judged 12 (laid (size512 ∷ writable ∷ sectors2008 ∷ []))
+    -- mode "x"
+    ∷ judged 13 (laid (node 1 (120 ∷ []) ∷ size512 ∷ sectors2008 ∷ []))
+    -- discard-secure "2"
+    ∷ judged 13 (laid (writable ∷ node 5 (50 ∷ []) ∷ size512 ∷ sectors2008 ∷ []))
+    -- protocol "x86_32-abi"
+    ∷ judged 13 (laid (writable ∷ size512 ∷ sectors2008 ∷ node 8 (120 ∷ 56 ∷ 54 ∷ 95 ∷ 51 ∷ 50 ∷ 45 ∷ 97 ∷ 98 ∷ 105 ∷ []) ∷ []))
+    -- sectors ""
+    ∷ judged 13 (laid (writable ∷ size512 ∷ node 7 [] ∷ []))
+    -- sectors "02008"
+    ∷ judged 13 (laid (writable ∷ size512 ∷ node 7 (48 ∷ 50 ∷ 48 ∷ 48 ∷ 56 ∷ []) ∷ []))
+    -- sectors "+8"
+    ∷ judged 13 (laid (writable ∷ size512 ∷ node 7 (43 ∷ 56 ∷ []) ∷ []))
+    -- ring-page-order "00" and ""
+    ∷ judged 13 (laid (writable ∷ size512 ∷ sectors2008 ∷ node 9 (48 ∷ 48 ∷ []) ∷ []))
+    ∷ judged 13 (laid (writable ∷ size512 ∷ sectors2008 ∷ node 9 [] ∷ []))
+    -- a faulty body comes before a missing node
+    ∷ judged 13 (laid (node 3 [] ∷ []))
+    -- sector-size "513" comes before a later protocol "x"
+    ∷ judged 14 (laid (writable ∷ node 6 (53 ∷ 49 ∷ 51 ∷ []) ∷ sectors2008 ∷ node 8 (120 ∷ []) ∷ []))
+    -- sectors 2^64
+    ∷ judged 14 (laid (writable ∷ size512 ∷ node 7 (49 ∷ 56 ∷ 52 ∷ 52 ∷ 54 ∷ 55 ∷ 52 ∷ 52 ∷ 48 ∷ 55 ∷ 51 ∷ 55 ∷ 48 ∷ 57 ∷ 53 ∷ 53 ∷ 49 ∷ 54 ∷ 49 ∷ 54 ∷ []) ∷ []))
+    -- ring-page-order "1"
+    ∷ judged 14 (laid (writable ∷ size512 ∷ sectors2008 ∷ node 9 (49 ∷ []) ∷ []))
+    -- no entry at all
+    ∷ judged 15 (0 ∷ [])
+    -- each of 1, 6 and 7 missing
+    ∷ judged 15 (laid (size512 ∷ sectors2008 ∷ []))
+    ∷ judged 15 (laid (writable ∷ sectors2008 ∷ []))
+    ∷ judged 15 (laid (writable ∷ size512 ∷ []))
+    ∷ []
+
+-- a writable disk with no feature
+abbrev disk : ℕ → Params
+disk sectors = record {
+  writable = true;
+  barrier = false;
+  flush = false;
+  discard = false;
+  secure = false;
+  sector = SectorSize.Bytes512;
+  sectors = sectors;
+  abi = Abi.Bits64;
+}
+
+record Computed : Type 0 where
+  refusals : map (λ (j : Judged). sheetOf (j .sheet)) refused ≡ map (λ (j : Judged). Sheet.Refused (j .number)) refused
+  -- "Whole sheet for a writable disk of 2,008 sectors, 21 bytes"
+  whole :
+      sheetOf (0x03 ∷ 0x01 ∷ 0x00 ∷ 0x01 ∷ 0x00 ∷ 0x06 ∷ 0x00 ∷ 0x03 ∷ 0x00 ∷ 0x07 ∷ 0x00 ∷ 0x04 ∷ 0x00 ∷ 0x77 ∷ 0x35 ∷ 0x31 ∷ 0x32 ∷ 0x32 ∷ 0x30 ∷ 0x30 ∷ 0x38 ∷ [])
+      ≡ Sheet.Read (disk 2008)
+  -- "zero allowed"
+  noSectors : sheetOf (laid (writable ∷ size512 ∷ node 7 (48 ∷ []) ∷ [])) ≡ Sheet.Read (disk 0)
+  -- every node, with the largest number of sectors
+  everyNode :
+      sheetOf (laid (writable ∷ node 2 (49 ∷ []) ∷ node 3 (48 ∷ []) ∷ node 4 (49 ∷ []) ∷ node 5 (49 ∷ []) ∷ node 6 (52 ∷ 48 ∷ 57 ∷ 54 ∷ []) ∷ node 7 (49 ∷ 56 ∷ 52 ∷ 52 ∷ 54 ∷ 55 ∷ 52 ∷ 52 ∷ 48 ∷ 55 ∷ 51 ∷ 55 ∷ 48 ∷ 57 ∷ 53 ∷ 53 ∷ 49 ∷ 54 ∷ 49 ∷ 53 ∷ []) ∷ node 8 (120 ∷ 56 ∷ 54 ∷ 95 ∷ 54 ∷ 52 ∷ 45 ∷ 97 ∷ 98 ∷ 105 ∷ []) ∷ node 9 (48 ∷ []) ∷ []))
+      ≡ Sheet.Read (record {
+        writable = true;
+        barrier = true;
+        flush = false;
+        discard = true;
+        secure = true;
+        sector = SectorSize.Bytes4096;
+        sectors = 18446744073709551615;
+        abi = Abi.Bits64;
+      })
+
+computed : Computed
+unfolding contents bodies laid refused load part all same entryAt bodyLength entriesFrom entriesOf bodiesEnd wellFormed rising isDigit digitsFrom capped digitsOf numberOf modeBody featureBody numberBody isSectorSize protocolBody bodyOf afterBody afterBodies valueOf present paramsOf hasRequired sheetOf
+computed = record { refusals = refl; whole = refl; noSectors = refl; everyNode = refl }

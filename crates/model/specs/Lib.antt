@@ -1,0 +1,15 @@
+pub mod Base
+pub mod Buffers
+pub mod Ring
+pub mod NodeSheet
+pub mod Port
+pub mod Checks
+pub mod Plan
+pub mod Calls
+pub mod Turn
+pub mod Complete
+pub mod Rules
+pub mod Deeds
+pub mod Backend
+pub mod Answers
+pub mod Lines

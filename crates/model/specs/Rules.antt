@@ -1,0 +1,95 @@
+-- Document 01, "When the desk says no", the first table, over a view: `due` is the whole event of a call, its answer and every byte that it leaves.
+-- "Lower number first, save the sheet order above." "(state and all lent bytes stay; the answer is the number alone)"
+use Prim.Native.Nat.{ℕ}
+use mathlib.Core.Bool.{Bool, true, not, _&&_, _||_}
+use mathlib.Core.List.{List, [], _∷_}
+use lib.Dec.{eqb, leb}
+use lib.IntN.{ℤ}
+use Rattle.model.specs.Base.{_⇒_, firstOf}
+use Rattle.model.specs.Buffers.{ports, areRings, areGrants}
+use Rattle.model.specs.Ring.{Ring}
+use Rattle.model.specs.NodeSheet.{sheetOf}
+use Rattle.model.specs.Port.{isClosed, View, Holder, free, held, zeroTag}
+use Rattle.model.specs.Calls.{Call, Open, Close, Turn, Complete, TurnEffect, CompleteEffect, Effect, Event}
+use Rattle.model.specs.Turn.{ringAt, turned}
+use Rattle.model.specs.Complete.{completed}
+use Rattle.model.specs.declared.Completed.{Completed}
+use Rattle.model.specs.declared.PortId.{PortId}
+use Rattle.model.specs.declared.Reply.{Reply}
+use Rattle.model.specs.declared.Serial.{Serial}
+use Rattle.model.specs.declared.Sheet.{Sheet}
+use Rattle.model.specs.declared.Tag.{Tag}
+use Rattle.model.specs.declared.TagId.{TagId}
+use Rattle.model.specs.declared.Turned.{Turned}
+
+-- "2 port above 7"
+abbrev pub noPort : PortId → Bool
+noPort p = leb ports (p .0)
+
+-- a sheet that is read opens the port; "11" to "15" otherwise
+unfoldable pub openedBy : Sheet → Reply
+openedBy (Sheet.Read p) = Reply.Done
+openedBy (Sheet.Refused n) = Reply.Refused n
+
+-- open: "2 port above 7", "3 port not closed", then the sheet's own order, 11 to 15
+unfoldable pub dueOpen : View → PortId → List ℕ → Reply
+dueOpen v p sheet =
+    firstOf
+    (noPort p ⇒ Reply.Refused 2
+    ∷ not (isClosed (v .state (p .0))) ⇒ Reply.Refused 3
+    ∷ [])
+    (openedBy (sheetOf sheet))
+
+-- close: "2 port above 7", "4 port closed", "5 requests in flight"; a broken port "can be closed"
+unfoldable pub dueClose : View → PortId → Reply
+dueClose v p =
+    firstOf
+    (noPort p ⇒ Reply.Refused 2
+    ∷ isClosed (v .state (p .0)) ⇒ Reply.Refused 4
+    ∷ not (eqb (v .inFlight (p .0)) 0) ⇒ Reply.Refused 5
+    ∷ [])
+    Reply.Done
+
+-- turn: "1 a lent buffer has the wrong length"
+unfoldable pub dueTurn : View → List ℕ → List ℕ → List ℕ → TurnEffect
+dueTurn v rings grants words =
+    firstOf
+    (not (areRings rings && areGrants grants) ⇒ record { rings = rings; words = words; answer = Turned.Refused 1 }
+    ∷ [])
+    (turned v rings grants)
+
+-- "6 ticket above 31, not busy, or another serial". "A stale completion whose ticket and serial name a newer busy request (port reopened, or 2^32 requests
+-- later) counts as that request's own.": nothing but tag and serial is asked.
+unfoldable pub namesNone : Ring → TagId → Serial → Holder → Bool
+namesNone g t s free = true
+namesNone g t s (held x) = leb (g .size) (t .0) || not (eqb (x .serial .0) (s .0))
+
+-- what a held tag keeps
+abbrev pub tagOf : Holder → Tag
+tagOf free = zeroTag
+tagOf (held x) = x
+
+unfoldable pub refusedCompletion : List ℕ → ℕ → CompleteEffect
+refusedCompletion rings n = record { rings = rings; answer = Completed.Refused n }
+
+-- complete: "1 a lent buffer has the wrong length", "2 port above 7", "4 port closed", "6 ticket above 31, not busy, or another serial"
+unfoldable pub dueComplete : View → List ℕ → PortId → TagId → Serial → ℤ → CompleteEffect
+dueComplete v rings p t s result =
+    let h = v .tag (p .0) (t .0) in
+    firstOf
+    (not (areRings rings) ⇒ refusedCompletion rings 1
+    ∷ noPort p ⇒ refusedCompletion rings 2
+    ∷ isClosed (v .state (p .0)) ⇒ refusedCompletion rings 4
+    ∷ namesNone (ringAt v (p .0)) t s h ⇒ refusedCompletion rings 6
+    ∷ [])
+    (completed v rings (p .0) (tagOf h) result)
+
+unfoldable pub effectDue : View → (c : Call) → Effect c
+effectDue v (Open p sheet) = dueOpen v p sheet
+effectDue v (Close p) = dueClose v p
+effectDue v (Turn rings grants words) = dueTurn v rings grants words
+effectDue v (Complete rings p t s result) = dueComplete v rings p t s result
+
+-- the event of a call
+abbrev pub due : View → Call → Event
+due v c = record { call = c; effect = effectDue v c }
