@@ -1,0 +1,47 @@
+-- `nodes::params_of` meets its contract: the fields are the definition's, and the sector size is what its function says. Assumes nothing.
+use borrow.Author.Needs.{needs}
+use Rattle.nodes.specs.Values.{paramsBy}
+use Rattle.nodes.proofs.params_of.Statement.{statement}
+use Rattle.nodes.proofs.params_of.Tie as tie
+
+array-read-t5 : tie.Need-array-read-t5
+array-read-t5 c = search needs
+
+array-read-t9 : tie.Need-array-read-t9
+array-read-t9 c = search needs
+
+array-read-t13 : tie.Need-array-read-t13
+array-read-t13 c = search needs
+
+array-read-t17 : tie.Need-array-read-t17
+array-read-t17 c = search needs
+
+array-read-t21 : tie.Need-array-read-t21
+array-read-t21 c = search needs
+
+array-read-sector-size : tie.Need-array-read-sector-size
+array-read-sector-size c = search needs
+
+sector-size-requires : tie.Need-sector-size-requires
+sector-size-requires c κs = search needs
+
+array-read-t29 : tie.Need-array-read-t29
+array-read-t29 c = search needs
+
+returns : tie.Need-returns
+unfolding paramsBy
+returns c = rw (c .sector-size .ensures)
+
+pub params-of-spec : {M : Type 1} → statement M
+params-of-spec =
+    tie.close
+    (tie.spec
+    array-read-t5
+    array-read-t9
+    array-read-t13
+    array-read-t17
+    array-read-t21
+    array-read-sector-size
+    sector-size-requires
+    array-read-t29
+    returns)

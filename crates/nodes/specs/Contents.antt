@@ -1,0 +1,17 @@
+-- What the functions over a table of contents ask of a sheet.
+use Prim.Native.Nat.{ℕ, _+_, _*_, _≤_, _<_}
+use mathlib.Core.Bool.{Bool}
+use mathlib.Core.List.{List}
+use lib.Dec.{eqb}
+use lib.ListN.{length}
+use Rattle.model.specs.NodeSheet.{Entry, entryCount}
+
+-- the table of contents lies in the sheet
+pub record Contents (sheet : List ℕ) : Type 0 where
+  pub some : 0 < length sheet
+  pub few : entryCount sheet ≤ 9
+  pub whole : 1 + 4 * entryCount sheet ≤ length sheet
+
+-- the reserved byte of an entry is zero
+abbrev pub isClear : Entry → Bool
+isClear e = eqb (e .reserved) 0

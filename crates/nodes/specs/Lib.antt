@@ -1,0 +1,4 @@
+pub mod Contents
+pub mod Digits
+pub mod Text
+pub mod Values
