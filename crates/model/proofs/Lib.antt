@@ -1,4 +1,15 @@
 pub mod Ring
+pub mod Base
+pub mod Busy
+pub mod Page
+pub mod Order
+pub mod Facts
+pub mod Keep
+pub mod Allow
+pub mod Fair
+pub mod Invariants
+pub mod Told
+pub mod Demand3
 pub mod Lines
 pub mod Sheets
 pub mod Run

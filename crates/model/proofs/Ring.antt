@@ -1,10 +1,14 @@
--- What the rules ask of a ring's numbers, for every port's params: proved by cases on their enums, so that no port has to keep numbers that fit.
-use mathlib.Core.Path.{_≡_, refl}
+-- What the rules ask of a ring's numbers, for every port's params: proved by cases on their enums, so that no port has to keep numbers that fit. And where
+-- the slots of such a ring lie.
+use mathlib.Core.Path.{_≡_, refl, ap, subst}
+use mathlib.Core.List.{List}
 use Prim.Native.Nat.{ℕ, _+_, _*_, _%_, _≤_, _<_}
+use native.Mathlib.Nat.{mod-mod-of-dvd, dvd-of-mod-eq-zero, mod-lt, mul-le-mul-left, mul-suc}
 use native.Mathlib.Omega.{arith}
+use Rattle.wire.specs.Part.{part}
 use Rattle.model.specs.Base.{modulus}
 use Rattle.model.specs.Buffers.{pageShare}
-use Rattle.model.specs.Ring.{Ring, headerSize, layoutOf, ringOf}
+use Rattle.model.specs.Ring.{Ring, headerSize, layoutOf, ringOf, slotAt, slotOf}
 use Rattle.model.specs.Port.{busyBits}
 use Rattle.model.specs.Checks.{maxSegments}
 use Rattle.model.specs.declared.Abi.{Abi}
@@ -40,3 +44,28 @@ fits-abi Abi.Bits64 = record {
 pub fits : (p : Params) → Fits (ringOf p)
 unfolding ringOf
 fits p = fits-abi (p .abi)
+
+module _ (g : Ring) (f : Fits g) where
+  -- an index and its remainder modulo 2^32 have one slot
+  pub slotAt-modulus : (i : ℕ) → slotAt g (i % modulus) ≡ slotAt g i
+  unfolding slotAt
+  slotAt-modulus i =
+      ap (λ (j : ℕ). headerSize + g .layout .slotSize * j) (mod-mod-of-dvd (g .size) i (dvd-of-mod-eq-zero (g .size) (f .whole)))
+
+  pub slotOf-modulus : (page : List ℕ) (i : ℕ) → slotOf g page (i % modulus) ≡ slotOf g page i
+  unfolding slotOf
+  slotOf-modulus page i = ap (λ (j : ℕ). part (g .layout .slotSize) page j) (slotAt-modulus i)
+
+  -- a slot ends within the page
+  pub slotAt-room : (i : ℕ) → slotAt g i + g .layout .slotSize ≤ pageShare
+  unfolding slotAt
+  slotAt-room i =
+      let n = g .layout .slotSize in
+      let h : n * (i % g .size) + n ≤ n * g .size =
+      subst (λ (x : ℕ). x ≤ n * g .size) (mul-suc n (i % g .size)) (mul-le-mul-left n (mod-lt i (f .some))) in
+      omega (arith, f .room)
+
+  -- and begins after the header
+  pub slotAt-header : (i : ℕ) → headerSize ≤ slotAt g i
+  unfolding slotAt
+  slotAt-header i = omega arith

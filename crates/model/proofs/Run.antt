@@ -1,15 +1,17 @@
--- A run of calls on whole buffers, computed: the definitions give the answers and the bytes that document 01 has for them.
+-- A history of calls on whole buffers, computed, with every kind of event: the definitions give the answers, the books, the turns and the bytes that document
+-- 01 has for them.
 use mathlib.Core.Path.{_≡_, refl}
 use mathlib.Core.Bool.{Bool, true, false}
-use mathlib.Core.List.{List, [], _∷_, _++_, map}
+use mathlib.Core.List.{List, [], _∷_, _++_}
+use mathlib.Core.Option.{Option, none, some}
 use Prim.Native.Nat.{ℕ, zero, suc, _+_, _*_}
-use lib.IntN.{ℤ, pos, negsuc}
-use lib.ListN.{replicate}
+use lib.IntN.{pos, negsuc}
+use lib.ListN.{drop, replicate}
 use Rattle.wire.specs.LittleEndian.{load, store}
 use Rattle.wire.specs.Part.{part, setPart}
 use Rattle.model.specs.Base.{all, same, least, tally}
 use Rattle.model.specs.Buffers.{pageOf, setPage, grantsOf}
-use Rattle.model.specs.Ring.{reqProd, setReqEvent, setRspProd, rspEvent, ringOf, slotAt, slotOf, segmentOf, segmentsOf, requestOf, setResponse, read}
+use Rattle.model.specs.Ring.{reqProd, setReqEvent, setRspProd, rspEvent, ringOf, slotAt, slotOf, segmentOf, segmentsOf, requestOf, setResponse, responsePair}
 use Rattle.model.specs.NodeSheet.{entryAt, bodyLength, entriesFrom, entriesOf, bodiesEnd, wellFormed, rising, isDigit, digitsFrom, capped, digitsOf, numberOf, modeBody, featureBody, numberBody, isSectorSize, protocolBody, bodyOf, afterBody, afterBodies, valueOf, present, paramsOf, hasRequired, sheetOf}
 use Rattle.model.specs.Port.{isBusy, inFlightOf, lowestFree, distance, pendingOf}
 use Rattle.model.specs.Checks.{asksSecure, isEmptyBarrier, movesNothing, sectorsIn, totalSectors, countOf, isAligned, isGranted, unknownOperation, featureOff, secureOff, readOnly, wrongAmount, isWithinFrame, wrongSegment, notGranted, pastEnd, unaligned, checks}
@@ -18,38 +20,105 @@ use Rattle.model.specs.Calls.{Call, Open, Close, Turn, Complete, Effect,
 use Rattle.model.specs.Turn.{portId, tagId, serialOf, pendingAt, hasWork, passedOver, armed, idle, responded, respondedAt, notifies, requestAt, settled, overran, servedBy, turned}
 use Rattle.model.specs.Complete.{expectedOf, statusOf, completed}
 use Rattle.model.specs.Rules.{openedBy, dueOpen, dueClose, dueTurn, namesNone, refusedCompletion, dueComplete, effectDue}
-use Rattle.model.specs.Backend.{Backend, emptyBackend, viewOf, withPort, withTag, withPointer, does, next, eventOn, afterCall}
+use Rattle.model.specs.Backend.{Backend, emptyBackend, viewOf, withPort, withTag, withPointer, does, next, afterCall}
+use Rattle.model.specs.History.{Book, asked, said as saidIn, answerTo, book, unfinished, pairsOf, hasToServe, Seen, turnsOf, historyFrom, history}
 use Rattle.model.specs.Answers.{turnedNumber, turnedWords, completedNumber, completedWords, replyNumber}
+use Rattle.model.specs.declared.Pair.{Pair}
 
--- ---- the calls
+-- ---- buffers
 
 -- "Whole sheet for a writable disk of 2,008 sectors, 21 bytes"
 abbrev sheet : List ℕ
 sheet = 0x03 ∷ 0x01 ∷ 0x00 ∷ 0x01 ∷ 0x00 ∷ 0x06 ∷ 0x00 ∷ 0x03 ∷ 0x00 ∷ 0x07 ∷ 0x00 ∷ 0x04 ∷ 0x00 ∷ 0x77 ∷ 0x35 ∷ 0x31 ∷ 0x32 ∷ 0x32 ∷ 0x30 ∷ 0x30 ∷ 0x38 ∷ []
 
--- port 3's page, and the other pages zero: req_prod, rsp_event 2, and in slot i an operation on one segment, sectors 0 to 7 of frame 5, at a start sector
-page : ℕ → ℕ → ℕ → ℕ → List ℕ
-page produced i operation start =
+-- a page: req_prod, rsp_event 2, and in slot i an operation with an id on one segment, sectors 0 to 7 of frame 5, at a start sector
+page : ℕ → ℕ → ℕ → ℕ → ℕ → List ℕ
+page produced i operation id start =
     let at = 64 + 112 * i in
     let header = store 4 (store 4 (replicate 4096 0) 0 produced) 12 2 in
-    let request = store 8 (store 8 (store 1 (store 1 header at operation) (at + 1) 1) (at + 8) 0x1122334455667788) (at + 16) start in
+    let request = store 8 (store 8 (store 1 (store 1 header at operation) (at + 1) 1) (at + 8) id) (at + 16) start in
     store 1 (store 4 request (at + 24) 5) (at + 29) 7
 
-rings : ℕ → ℕ → ℕ → ℕ → List ℕ
-rings produced i operation start = replicate 12288 0 ++ (page produced i operation start ++ replicate 16384 0)
-
+-- every frame of every port may be read and written
 grants : List ℕ
 grants = replicate 8192 2
 
 words : List ℕ
 words = replicate 44 9
 
--- a run of calls, each on the backend as the last one left it
-run : Backend → List Call → List Event
-run b [] = []
-run b (c ∷ cs) = eventOn b c ∷ run (afterCall b c) cs
+-- the rings with pages of ports 2 and 3, the other pages zero
+rings : List ℕ → List ℕ → List ℕ
+rings two three = replicate 8192 0 ++ (two ++ (three ++ replicate 16384 0))
 
--- what is looked at of an event: the refusal's number, and the answer's values
+-- a read of port 2 and a write of port 3 wait
+both : List ℕ
+both = rings (page 1 0 0 0x21 2000) (page 1 0 1 0x31 2000)
+
+-- port 2 has an unknown operation waiting, after its read
+unknown : List ℕ
+unknown = rings (page 2 1 9 0x22 0) (page 1 0 1 0x31 2000)
+
+-- port 3's req_prod says too much
+overfull : List ℕ
+overfull = rings (page 2 1 9 0x22 0) (page 50 0 0 0 0)
+
+-- port 2, opened once more, has a request waiting
+again : List ℕ
+again = rings (page 1 0 0 0x23 2000) (page 50 0 0 0 0)
+
+-- ---- a history
+
+-- every kind of event up to a close, each refusal of a call among them
+earlier : List Call
+earlier =
+    Open (portId 2) sheet
+    ∷ Open (portId 3) sheet
+    ∷ Open (portId 3) sheet
+    ∷ Open (portId 8) sheet
+    -- an empty sheet; a node that does not rise; a text that is no mode; a number that is no sector size; nodes missing
+    ∷ Open (portId 4) []
+    ∷ Open (portId 4) (2 ∷ 1 ∷ 0 ∷ 1 ∷ 0 ∷ 1 ∷ 0 ∷ 1 ∷ 0 ∷ 119 ∷ 119 ∷ [])
+    ∷ Open (portId 4) (1 ∷ 1 ∷ 0 ∷ 1 ∷ 0 ∷ 120 ∷ [])
+    ∷ Open (portId 4) (1 ∷ 6 ∷ 0 ∷ 1 ∷ 0 ∷ 53 ∷ [])
+    ∷ Open (portId 4) (0 ∷ [])
+    -- port 2, then port 3, then port 2, then none
+    ∷ Turn both grants words
+    ∷ Turn both grants words
+    ∷ Turn unknown grants words
+    ∷ Turn unknown grants words
+    ∷ Turn [] grants words
+    ∷ Turn unknown [] words
+    ∷ Close (portId 2)
+    ∷ Close (portId 8)
+    ∷ Close (portId 4)
+    -- no rings; no port; a closed one; a tag above 31; a free one; another serial
+    ∷ Complete [] (portId 9) (tagId 0) (serialOf 0) (pos 8)
+    ∷ Complete unknown (portId 8) (tagId 0) (serialOf 0) (pos 8)
+    ∷ Complete unknown (portId 4) (tagId 0) (serialOf 0) (pos 8)
+    ∷ Complete unknown (portId 2) (tagId 32) (serialOf 0) (pos 8)
+    ∷ Complete unknown (portId 2) (tagId 1) (serialOf 0) (pos 8)
+    ∷ Complete unknown (portId 2) (tagId 0) (serialOf 1) (pos 8)
+    -- and the one that was started; then the same, doubled
+    ∷ Complete unknown (portId 2) (tagId 0) (serialOf 0) (pos 8)
+    ∷ Complete unknown (portId 2) (tagId 0) (serialOf 0) (pos 8)
+    ∷ []
+
+later : List Call
+later =
+    -- an overrun of port 3, which is then served no more
+    Turn overfull grants words
+    ∷ Turn overfull grants words
+    -- port 2 is closed and opened; its tag and serial come again, and a late completion counts as the new request's own
+    ∷ Close (portId 2)
+    ∷ Open (portId 2) sheet
+    ∷ Turn again grants words
+    ∷ Complete again (portId 2) (tagId 0) (serialOf 0) (negsuc 94)
+    -- the broken port's completion works, and it can be closed
+    ∷ Complete again (portId 3) (tagId 0) (serialOf 0) (pos 7)
+    ∷ Close (portId 3)
+    ∷ []
+
+-- what is looked at of an event: the refusal's number, or the answer's values
 data Said : Type 0 where
   refused : ℕ → Said
   done : List ℕ → Said
@@ -64,32 +133,108 @@ saidBy (Close p) e = say (replyNumber e) []
 saidBy (Turn r g w) e = say (turnedNumber (e .answer)) (turnedWords (e .answer))
 saidBy (Complete r p t s x) e = say (completedNumber (e .answer)) (completedWords (e .answer))
 
-abbrev said : Event → Said
-said e = saidBy (e .call) (e .effect)
+-- in the order of the calls, before those already looked at
+inOrder : List Event → List Said → List Said
+inOrder [] l = l
+inOrder (e ∷ h) l = inOrder h (saidBy (e .call) (e .effect) ∷ l)
 
-calls : List Call
-calls =
-    Open (portId 3) sheet
-    ∷ Open (portId 3) sheet
-    ∷ Open (portId 8) sheet
-    ∷ Open (portId 4) []
-    ∷ Turn (rings 1 0 0 2000) grants words
-    ∷ Turn (rings 1 0 0 2000) grants words
-    ∷ Turn [] grants words
-    ∷ Turn (rings 2 1 0 2001) grants words
-    ∷ Turn (rings 3 2 9 0) grants words
-    ∷ Close (portId 3)
-    ∷ Complete [] (portId 9) (tagId 0) (serialOf 0) (pos 8)
-    ∷ Complete (rings 0 0 0 0) (portId 8) (tagId 0) (serialOf 0) (pos 8)
-    ∷ Complete (rings 0 0 0 0) (portId 4) (tagId 0) (serialOf 0) (pos 8)
-    ∷ Complete (rings 0 0 0 0) (portId 3) (tagId 0) (serialOf 1) (pos 8)
-    ∷ Complete (rings 0 0 0 0) (portId 3) (tagId 0) (serialOf 0) (pos 8)
-    ∷ Complete (rings 0 0 0 0) (portId 3) (tagId 0) (serialOf 0) (pos 8)
-    ∷ Turn (rings 50 0 0 0) grants words
-    ∷ Turn (rings 50 0 0 0) grants words
-    ∷ Close (portId 3)
-    ∷ Close (portId 3)
-    ∷ []
+-- and of a port's books: the pairs taken, answered and unfinished
+record Lines : Type 0 where
+  taken : List Pair
+  answered : List Pair
+  left : List Pair
+
+abbrev linesOf : Book → Lines
+linesOf b = record { taken = pairsOf (b .taken); answered = b .answered; left = pairsOf (unfinished (b .taken)) }
+
+abbrev pair : ℕ → ℕ → Pair
+pair id operation = record { id = id; operation = operation }
+
+abbrev turnSeen : Bool → Option ℕ → Seen
+turnSeen w j = record { wanted = w; chosen = j }
+
+-- what is looked at of a history whose latest eight calls are the later ones
+record Looked : Type 0 where
+  -- the answers, in the order of the calls
+  answers : List Said
+  -- the books of port 2 before it was closed, and of port 3 then
+  before : Lines
+  waiting : Lines
+  -- the books of port 2 since it was opened once more
+  reopened : Lines
+  -- the turns as port 3 sees them, the latest first
+  turns : List Seen
+
+abbrev looked : List Event → Looked
+looked h = record {
+  answers = inOrder h [];
+  before = linesOf (book 2 (drop 8 h));
+  waiting = linesOf (book 3 (drop 8 h));
+  reopened = linesOf (book 2 h);
+  turns = turnsOf 3 h;
+}
+
+computed :
+    looked (history (earlier ++ later)) ≡
+    record {
+      answers =
+          done []
+          ∷ done []
+          ∷ refused 3
+          ∷ refused 2
+          ∷ refused 11
+          ∷ refused 12
+          ∷ refused 13
+          ∷ refused 14
+          ∷ refused 15
+          ∷ done (1 ∷ 2 ∷ 0 ∷ 0 ∷ 0 ∷ 2000 ∷ 8 ∷ 0 ∷ 1 ∷ 0 ∷ 0 ∷ 0 ∷ [])
+          ∷ done (1 ∷ 3 ∷ 0 ∷ 0 ∷ 1 ∷ 2000 ∷ 8 ∷ 0 ∷ 1 ∷ 0 ∷ 0 ∷ 0 ∷ [])
+          ∷ done (2 ∷ 2 ∷ 0 ∷ 0 ∷ 0 ∷ 0 ∷ 0 ∷ 0 ∷ 0 ∷ 21 ∷ 2 ∷ 0 ∷ [])
+          ∷ done (replicate 12 0)
+          ∷ refused 1
+          ∷ refused 1
+          ∷ refused 5
+          ∷ refused 2
+          ∷ refused 4
+          ∷ refused 1
+          ∷ refused 2
+          ∷ refused 4
+          ∷ refused 6
+          ∷ refused 6
+          ∷ refused 6
+          ∷ done (2 ∷ 0 ∷ 1 ∷ [])
+          ∷ refused 6
+          ∷ done (3 ∷ 3 ∷ replicate 10 0)
+          ∷ done (replicate 12 0)
+          ∷ done []
+          ∷ done []
+          ∷ done (1 ∷ 2 ∷ 0 ∷ 0 ∷ 0 ∷ 2000 ∷ 8 ∷ 0 ∷ 1 ∷ 0 ∷ 0 ∷ 0 ∷ [])
+          ∷ done (2 ∷ 2 ∷ 0 ∷ [])
+          ∷ done (3 ∷ 1 ∷ 0 ∷ [])
+          ∷ done []
+          ∷ [];
+      -- its read was answered after the unknown operation
+      before = record { taken = pair 0x22 9 ∷ pair 0x21 0 ∷ []; answered = pair 0x21 0 ∷ pair 0x22 9 ∷ []; left = [] };
+      waiting = record { taken = pair 0x31 1 ∷ []; answered = []; left = pair 0x31 1 ∷ [] };
+      reopened = record { taken = pair 0x23 0 ∷ []; answered = pair 0x23 0 ∷ []; left = [] };
+      turns =
+          turnSeen false (some 2)
+          ∷ turnSeen false none
+          ∷ turnSeen true (some 3)
+          ∷ turnSeen false none
+          ∷ turnSeen false (some 2)
+          ∷ turnSeen true (some 3)
+          ∷ turnSeen true (some 2)
+          ∷ [];
+    }
+unfolding page rings grants words load store part setPart all same least tally pageOf setPage grantsOf reqProd setReqEvent setRspProd rspEvent ringOf slotAt slotOf segmentOf segmentsOf requestOf setResponse entryAt bodyLength entriesFrom entriesOf bodiesEnd wellFormed rising isDigit digitsFrom capped digitsOf numberOf modeBody featureBody numberBody isSectorSize protocolBody bodyOf afterBody afterBodies valueOf present paramsOf hasRequired sheetOf isBusy inFlightOf lowestFree distance pendingOf asksSecure isEmptyBarrier movesNothing sectorsIn totalSectors countOf isAligned isGranted unknownOperation featureOff secureOff readOnly wrongAmount isWithinFrame wrongSegment notGranted pastEnd unaligned checks extentsFrom extentsOf extentWords wordsBeside planOf verdictOf pendingAt hasWork passedOver armed idle responded respondedAt notifies requestAt settled overran servedBy turned expectedOf statusOf completed openedBy dueOpen dueClose dueTurn namesNone refusedCompletion dueComplete effectDue viewOf withPort withTag withPointer does next both unknown overfull again earlier later inOrder historyFrom book answerTo unfinished asked saidIn responsePair turnsOf hasToServe
+computed = refl
+
+-- ---- bytes of the rings
+
+-- the rings with a request in slot 0 of port 3's page, at a start sector
+lent : ℕ → ℕ → List ℕ
+lent produced start = rings (replicate 4096 0) (page produced 0 0 0x1122334455667788 start)
 
 -- the backend with port 3 open, and a turn on it
 opened : Backend
@@ -99,44 +244,21 @@ abbrev turn : List ℕ → Effect (Turn [] [] [])
 turn r = turned (viewOf opened) r grants
 
 -- n bytes of the page that a turn left of port 3
-left : List ℕ → ℕ → ℕ → List ℕ
-left r at n = part n (turn r .rings) (4096 * 3 + at)
+wrote : List ℕ → ℕ → ℕ → List ℕ
+wrote r at n = part n (turn r .rings) (4096 * 3 + at)
 
 -- ---- what is computed
 
-record Computed : Type 0 where
-  answers :
-      map said (run emptyBackend calls) ≡
-      done []
-      ∷ refused 3
-      ∷ refused 2
-      ∷ refused 11
-      ∷ done (1 ∷ 3 ∷ 0 ∷ 0 ∷ 0 ∷ 2000 ∷ 8 ∷ 0 ∷ 1 ∷ 0 ∷ 0 ∷ 0 ∷ [])
-      ∷ done (0 ∷ 0 ∷ 0 ∷ 0 ∷ 0 ∷ 0 ∷ 0 ∷ 0 ∷ 0 ∷ 0 ∷ 0 ∷ 0 ∷ [])
-      ∷ refused 1
-      ∷ done (2 ∷ 3 ∷ 0 ∷ 0 ∷ 0 ∷ 0 ∷ 0 ∷ 0 ∷ 0 ∷ 28 ∷ 1 ∷ 0 ∷ [])
-      ∷ done (2 ∷ 3 ∷ 0 ∷ 0 ∷ 0 ∷ 0 ∷ 0 ∷ 0 ∷ 0 ∷ 21 ∷ 2 ∷ 1 ∷ [])
-      ∷ refused 5
-      ∷ refused 1
-      ∷ refused 2
-      ∷ refused 4
-      ∷ refused 6
-      ∷ done (3 ∷ 0 ∷ 0 ∷ [])
-      ∷ refused 6
-      ∷ done (3 ∷ 3 ∷ 0 ∷ 0 ∷ 0 ∷ 0 ∷ 0 ∷ 0 ∷ 0 ∷ 0 ∷ 0 ∷ 0 ∷ [])
-      ∷ done (0 ∷ 0 ∷ 0 ∷ 0 ∷ 0 ∷ 0 ∷ 0 ∷ 0 ∷ 0 ∷ 0 ∷ 0 ∷ 0 ∷ [])
-      ∷ done []
-      ∷ refused 4
-      ∷ []
+record Bytes : Type 0 where
   -- "Refused with -1, operation 0, id 1122334455667788 hex"; the slot's other bytes stay, here the start sector, 2001
-  response : left (rings 1 0 0 2001) 64 24 ≡
+  response : wrote (lent 1 2001) 64 24 ≡
       0x88 ∷ 0x77 ∷ 0x66 ∷ 0x55 ∷ 0x44 ∷ 0x33 ∷ 0x22 ∷ 0x11 ∷ 0x00 ∷ 0x00 ∷ 0xff ∷ 0xff ∷ 0x00 ∷ 0x00 ∷ 0x00 ∷ 0x00 ∷ 0xd1 ∷ 0x07 ∷ 0 ∷ 0 ∷ 0 ∷ 0 ∷ 0 ∷ 0 ∷ []
   -- req_prod, req_event, rsp_prod, rsp_event after a response, and after an idle turn
-  answeredHeader : left (rings 1 0 0 2001) 0 16 ≡ 1 ∷ 0 ∷ 0 ∷ 0 ∷ 0 ∷ 0 ∷ 0 ∷ 0 ∷ 1 ∷ 0 ∷ 0 ∷ 0 ∷ 2 ∷ 0 ∷ 0 ∷ 0 ∷ []
-  idleHeader : left (rings 0 0 0 0) 0 16 ≡ 0 ∷ 0 ∷ 0 ∷ 0 ∷ 1 ∷ 0 ∷ 0 ∷ 0 ∷ 0 ∷ 0 ∷ 0 ∷ 0 ∷ 2 ∷ 0 ∷ 0 ∷ 0 ∷ []
+  answeredHeader : wrote (lent 1 2001) 0 16 ≡ 1 ∷ 0 ∷ 0 ∷ 0 ∷ 0 ∷ 0 ∷ 0 ∷ 0 ∷ 1 ∷ 0 ∷ 0 ∷ 0 ∷ 2 ∷ 0 ∷ 0 ∷ 0 ∷ []
+  idleHeader : wrote (lent 0 0) 0 16 ≡ 0 ∷ 0 ∷ 0 ∷ 0 ∷ 1 ∷ 0 ∷ 0 ∷ 0 ∷ 0 ∷ 0 ∷ 0 ∷ 0 ∷ 2 ∷ 0 ∷ 0 ∷ 0 ∷ []
   -- the one extent of a start: frame 5, from its sector 0, eight sectors, at disk sector 2000; ten unused ones
-  extents : turn (rings 1 0 0 2000) .words ≡ 5 ∷ 0 ∷ 8 ∷ 2000 ∷ replicate 40 0
+  extents : turn (lent 1 2000) .words ≡ 5 ∷ 0 ∷ 8 ∷ 2000 ∷ replicate 40 0
 
-computed : Computed
-unfolding page rings grants words calls run left opened load store part setPart all same least tally pageOf setPage grantsOf reqProd setReqEvent setRspProd rspEvent ringOf slotAt slotOf segmentOf segmentsOf requestOf setResponse entryAt bodyLength entriesFrom entriesOf bodiesEnd wellFormed rising isDigit digitsFrom capped digitsOf numberOf modeBody featureBody numberBody isSectorSize protocolBody bodyOf afterBody afterBodies valueOf present paramsOf hasRequired sheetOf isBusy inFlightOf lowestFree distance pendingOf asksSecure isEmptyBarrier movesNothing sectorsIn totalSectors countOf isAligned isGranted unknownOperation featureOff secureOff readOnly wrongAmount isWithinFrame wrongSegment notGranted pastEnd unaligned checks extentsFrom extentsOf extentWords wordsBeside planOf verdictOf pendingAt hasWork passedOver armed idle responded respondedAt notifies requestAt settled overran servedBy turned expectedOf statusOf completed openedBy dueOpen dueClose dueTurn namesNone refusedCompletion dueComplete effectDue viewOf withPort withTag withPointer does next
-computed = record { answers = refl; response = refl; answeredHeader = refl; idleHeader = refl; extents = refl }
+bytes : Bytes
+unfolding lent opened wrote page rings grants words load store part setPart all same least tally pageOf setPage grantsOf reqProd setReqEvent setRspProd rspEvent ringOf slotAt slotOf segmentOf segmentsOf requestOf setResponse entryAt bodyLength entriesFrom entriesOf bodiesEnd wellFormed rising isDigit digitsFrom capped digitsOf numberOf modeBody featureBody numberBody isSectorSize protocolBody bodyOf afterBody afterBodies valueOf present paramsOf hasRequired sheetOf isBusy inFlightOf lowestFree distance pendingOf asksSecure isEmptyBarrier movesNothing sectorsIn totalSectors countOf isAligned isGranted unknownOperation featureOff secureOff readOnly wrongAmount isWithinFrame wrongSegment notGranted pastEnd unaligned checks extentsFrom extentsOf extentWords wordsBeside planOf verdictOf pendingAt hasWork passedOver armed idle responded respondedAt notifies requestAt settled overran servedBy turned expectedOf statusOf completed openedBy dueOpen dueClose dueTurn namesNone refusedCompletion dueComplete effectDue viewOf withPort withTag withPointer does next
+bytes = record { response = refl; answeredHeader = refl; idleHeader = refl; extents = refl }

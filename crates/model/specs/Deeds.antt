@@ -87,8 +87,12 @@ round (Complete rings p t s x) e = noTurn
 abbrev pub roundOf : Event → Round
 roundOf e = round (e .call) (e .effect)
 
+-- the port after port k, "wrapping after 7"
+abbrev pub portAfter : ℕ → ℕ
+portAfter k = (k + 1) % ports
+
 -- "The pointer becomes the port after it. Opens, closes and completions never move it."
 abbrev pub moved : Round → ℕ → ℕ
 moved noTurn pointer = pointer
 moved (unserved lent) pointer = pointer
-moved (served lent k) pointer = (k + 1) % ports
+moved (served lent k) pointer = portAfter k

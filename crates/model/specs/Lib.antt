@@ -11,5 +11,7 @@ pub mod Complete
 pub mod Rules
 pub mod Deeds
 pub mod Backend
+pub mod History
+pub mod Demand
 pub mod Answers
 pub mod Lines

@@ -1,0 +1,133 @@
+-- The laws of a port's page: what was put is there, and a response reads back as the pair and the status that it was given. Assumes nothing.
+use mathlib.Core.Path.{_≡_, ap, _∙_}
+use mathlib.Core.List.{List}
+use Prim.Native.Nat.{ℕ, _+_, _-_, _*_, _^_, _≤_, _<_}
+use native.Mathlib.Omega.{arith}
+use lib.ListN.{length, getD}
+use Rattle.wire.specs.LittleEndian.{load, store}
+use Rattle.wire.proofs.LittleEndian.{length-store, getD-store-outside, getD-store-inside, load-store-below, load-store-above, load-store-lt, load-lt}
+use Rattle.wire.proofs.Part.{length-part, length-setPart, part-setPart, bytes-part}
+use Rattle.model.specs.Buffers.{ports, pageShare, ringsLength, pageOf, setPage}
+use Rattle.model.specs.Ring.{Layout, Ring, setRspProd, slotAt, slotOf, requestOf, setResponse, statusBits, responsePair, responseStatus}
+use Rattle.model.specs.Port.{after}
+use Rattle.model.specs.Turn.{responded}
+use Rattle.model.specs.declared.Pair.{Pair}
+use Rattle.model.specs.declared.Status.{Status}
+use Rattle.model.proofs.Ring.{Fits, slotAt-room, slotAt-header}
+
+-- ---- pages of the rings
+
+module _ (rings : List ℕ) (k : ℕ) (sized : length rings ≡ ringsLength) (small : k < ports) where
+  pub length-pageOf : length (pageOf rings k) ≡ pageShare
+  unfolding pageOf
+  length-pageOf = length-part pageShare rings (pageShare * k) (omega arith)
+
+  -- the page that was put is there
+  pub pageOf-setPage : (page : List ℕ) → length page ≡ pageShare → pageOf (setPage rings k page) k ≡ page
+  unfolding pageOf setPage
+  pageOf-setPage page l = part-setPart pageShare rings (pageShare * k) page (omega arith) l
+
+  pub length-setPage : (page : List ℕ) → length page ≡ pageShare → length (setPage rings k page) ≡ length rings
+  unfolding setPage
+  length-setPage page l = length-setPart pageShare rings (pageShare * k) page (omega arith) l
+
+-- ---- requests
+
+-- a pair within its bytes
+abbrev pub FitsPair : Pair → Type 0
+FitsPair q = (q .id < 2 ^ 64) × (q .operation < 256)
+
+-- a request read from bytes
+pub request-fits : (l : Layout) (slot : List ℕ) → ((i : ℕ) → getD slot i 0 < 256) → FitsPair (requestOf l slot .pair)
+unfolding requestOf
+request-fits l slot h = (load-lt 8 slot (l .idAt) h, h 0)
+
+pub slot-bytes : (g : Ring) (rings : List ℕ) (k i : ℕ) → ((j : ℕ) → getD rings j 0 < 256) → (j : ℕ) → getD (slotOf g (pageOf rings k) i) j 0 < 256
+unfolding slotOf pageOf
+slot-bytes g rings k i h = bytes-part _ _ _ (bytes-part pageShare rings (pageShare * k) h)
+
+-- ---- responses
+
+-- a status has 16 bits
+pub statusBits-lt : (s : Status) → statusBits s < 256 ^ 2
+statusBits-lt Status.Okay = omega arith
+statusBits-lt Status.Error = omega arith
+statusBits-lt Status.NotSupported = omega arith
+
+module _ (l : Layout) (page : List ℕ) (at : ℕ) (q : Pair) (s : Status) where
+  pub length-setResponse : length (setResponse l page at q s) ≡ length page
+  unfolding setResponse
+  length-setResponse =
+      length-store (l .responseSize - 12) _ (at + 12) 0
+      ∙ length-store 2 _ (at + 10) (statusBits s)
+      ∙ length-store 1 _ (at + 9) 0
+      ∙ length-store 1 _ (at + 8) (q .operation)
+      ∙ length-store 8 page at (q .id)
+
+  module _ (whole : 12 ≤ l .responseSize) (room : at + l .responseSize ≤ length page) where
+    -- a response reads back as its pair
+    pub pair-setResponse : FitsPair q → responsePair (setResponse l page at q s) at ≡ q
+    unfolding responsePair setResponse
+    pair-setResponse fit =
+        let a = store 8 page at (q .id) in
+        let b = store 1 a (at + 8) (q .operation) in
+        let c = store 1 b (at + 9) 0 in
+        let d = store 2 c (at + 10) (statusBits s) in
+        let e = store (l .responseSize - 12) d (at + 12) 0 in
+        let id : load 8 e at ≡ q .id =
+        load-store-below 8 (l .responseSize - 12) d (at + 12) 0 at (omega arith)
+        ∙ load-store-below 8 2 c (at + 10) (statusBits s) at (omega arith)
+        ∙ load-store-below 8 1 b (at + 9) 0 at (omega arith)
+        ∙ load-store-below 8 1 a (at + 8) (q .operation) at (omega arith)
+        ∙ load-store-lt 8 page at (q .id) (omega arith) (fit .0) in
+        let operation : getD e (at + 8) 0 ≡ q .operation =
+        getD-store-outside (l .responseSize - 12) d (at + 12) 0 (at + 8) (λ i h k. omega arith)
+        ∙ getD-store-outside 2 c (at + 10) (statusBits s) (at + 8) (λ i h k. omega arith)
+        ∙ getD-store-outside 1 b (at + 9) 0 (at + 8) (λ i h k. omega arith)
+        ∙ ap (λ (i : ℕ). getD b i 0) (omega arith)
+        ∙ getD-store-inside 1 a (at + 8) (q .operation) 0 (omega arith) (omega (arith, length-store 8 page at (q .id)))
+        ∙ omega (arith, fit .1) in
+        λ i. record { id = id i; operation = operation i }
+
+    -- and its status
+    pub status-setResponse : responseStatus (setResponse l page at q s) at ≡ statusBits s
+    unfolding responseStatus setResponse
+    status-setResponse =
+        let a = store 8 page at (q .id) in
+        let b = store 1 a (at + 8) (q .operation) in
+        let c = store 1 b (at + 9) 0 in
+        let d = store 2 c (at + 10) (statusBits s) in
+        load-store-below 2 (l .responseSize - 12) d (at + 12) 0 (at + 10) (omega arith)
+        ∙ load-store-lt
+        2
+        c
+        (at + 10)
+        (statusBits s)
+        (omega (arith, length-store 1 b (at + 9) 0, length-store 1 a (at + 8) (q .operation), length-store 8 page at (q .id)))
+        (statusBits-lt s)
+
+-- a response in the slot of an index, with rsp_prod after it
+module _ (g : Ring) (f : Fits g) (page : List ℕ) (produced : ℕ) (q : Pair) (s : Status) (sized : length page ≡ pageShare) where
+  pub length-responded : length (responded g page produced q s) ≡ pageShare
+  unfolding responded setRspProd
+  length-responded = length-store 4 _ 8 _ ∙ length-setResponse (g .layout) page (slotAt g produced) q s ∙ sized
+
+  room : slotAt g produced + g .layout .responseSize ≤ length page
+  room = omega (arith, slotAt-room g f produced, f .responseRoom)
+
+  -- rsp_prod stands before every slot
+  pub pair-responded : FitsPair q → responsePair (responded g page produced q s) (slotAt g produced) ≡ q
+  unfolding responsePair responded setRspProd
+  pair-responded fit =
+      let at = slotAt g produced in
+      let b = setResponse (g .layout) page at q s in
+      let id = load-store-above 8 4 b 8 (after produced) at (omega (arith, slotAt-header g f produced)) in
+      let operation = getD-store-outside 4 b 8 (after produced) (at + 8) (λ i h e. omega (arith, slotAt-header g f produced)) in
+      (λ i. record { id = id i; operation = operation i }) ∙ pair-setResponse (g .layout) page at q s (f .statusRoom) room fit
+
+  pub status-responded : responseStatus (responded g page produced q s) (slotAt g produced) ≡ statusBits s
+  unfolding responseStatus responded setRspProd
+  status-responded =
+      let at = slotAt g produced in
+      load-store-above 2 4 (setResponse (g .layout) page at q s) 8 (after produced) (at + 10) (omega (arith, slotAt-header g f produced))
+      ∙ status-setResponse (g .layout) page at q s (f .statusRoom) room
