@@ -1,0 +1,4 @@
+pub mod Busy
+pub mod Words
+pub mod Abstract
+pub mod Zeros

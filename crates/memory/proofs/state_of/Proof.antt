@@ -1,0 +1,17 @@
+-- `memory::state_of` meets its contract: the last arm by what the others excluded (Words). Assumes nothing.
+use borrow.Author.Needs.{needs}
+use Rattle.memory.proofs.Words.{state-broken}
+use Rattle.memory.proofs.state_of.Statement.{statement}
+use Rattle.memory.proofs.state_of.Tie as tie
+
+returns : tie.Need-returns
+returns c = search needs
+
+returns-2 : tie.Need-returns-2
+returns-2 c = search needs
+
+returns-3 : tie.Need-returns-3
+returns-3 c = state-broken (c .before .args .x) (c .match .rest .0 .1) (c .match .rest .1)
+
+pub state-of-spec : {M : Type 1} → statement M
+state-of-spec = tie.close (tie.spec returns returns-2 returns-3)

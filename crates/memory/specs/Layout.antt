@@ -1,0 +1,29 @@
+-- Where the words of backend memory stand: one field to a word, port after port, each port's own words before its tags', the pointer last.
+use Prim.Native.Nat.{ℕ, _+_, _*_}
+use Rattle.model.specs.Buffers.{ports}
+
+-- the words of a port beside its tags, of a tag, and the tags of a port ("A port has 32 tickets")
+abbrev pub portWords : ℕ
+portWords = 12
+
+abbrev pub tagWords : ℕ
+tagWords = 4
+
+abbrev pub tags : ℕ
+tags = 32
+
+-- from one port's first word to the next port's
+abbrev pub stride : ℕ
+stride = portWords + tagWords * tags
+
+-- the pointer's word
+abbrev pub pointerWord : ℕ
+pointerWord = stride * ports
+
+-- all of them
+abbrev pub memoryWords : ℕ
+memoryWords = pointerWord + 1
+
+-- where a tag's words begin among its port's
+abbrev pub tagFrom : ℕ → ℕ
+tagFrom t = portWords + tagWords * t

@@ -1,0 +1,4 @@
+pub mod Index
+pub mod Result
+pub mod Response
+pub mod Page
