@@ -1,0 +1,4 @@
+pub mod Laws
+pub mod Reasons
+pub mod Scan
+pub mod Verdict

@@ -1,0 +1,62 @@
+-- `request::extents::put` meets its contract: four stores in a row. Assumes nothing.
+use borrow.Author.Needs.{needs}
+use native.Mathlib.Numerals.{towards-suc}
+use Rattle.request.proofs.extents.put.Statement.{statement}
+use Rattle.request.proofs.extents.put.Tie as tie
+
+mul-at : tie.Need-mul-at
+mul-at c = search needs
+
+mul-words : tie.Need-mul-words
+mul-words c = search needs
+
+element-write-words : tie.Need-element-write-words
+element-write-words c = search needs
+
+add-words : tie.Need-add-words
+add-words c = search needs
+
+mul-words-2 : tie.Need-mul-words-2
+mul-words-2 c = search needs
+
+element-write-words-2 : tie.Need-element-write-words-2
+element-write-words-2 c = search needs
+
+add-words-2 : tie.Need-add-words-2
+add-words-2 c = search needs
+
+mul-words-3 : tie.Need-mul-words-3
+mul-words-3 c = search needs
+
+element-write-words-3 : tie.Need-element-write-words-3
+element-write-words-3 c = search needs
+
+add-words-3 : tie.Need-add-words-3
+add-words-3 c = search needs
+
+mul-words-4 : tie.Need-mul-words-4
+mul-words-4 c = search needs
+
+element-write-words-4 : tie.Need-element-write-words-4
+element-write-words-4 c = search needs
+
+returns : tie.Need-returns
+returns c = simp towards-suc
+
+pub put-spec : {M : Type 1} → statement M
+put-spec =
+    tie.close
+    (tie.spec
+    mul-at
+    mul-words
+    element-write-words
+    add-words
+    mul-words-2
+    element-write-words-2
+    add-words-2
+    mul-words-3
+    element-write-words-3
+    add-words-3
+    mul-words-4
+    element-write-words-4
+    returns)

@@ -1,0 +1,11 @@
+-- `request::layout::id_at` meets its contract, by cases on the layouts. Assumes nothing.
+use native.Mathlib.Omega.{arith}
+use Rattle.request.proofs.Laws.{id-place}
+use Rattle.request.proofs.layout.id_at.Statement.{statement}
+use Rattle.request.proofs.layout.id_at.Tie as tie
+
+returns : tie.Need-returns
+returns c = (id-place (c .args .abi), omega arith)
+
+pub id-at-spec : {M : Type 1} → statement M
+id-at-spec = tie.close (tie.spec returns)

@@ -1,0 +1,11 @@
+-- `request::layout::segments_at` meets its contract, by cases on the layouts. Assumes nothing.
+use native.Mathlib.Omega.{arith}
+use Rattle.request.proofs.Laws.{segments-place}
+use Rattle.request.proofs.layout.segments_at.Statement.{statement}
+use Rattle.request.proofs.layout.segments_at.Tie as tie
+
+returns : tie.Need-returns
+returns c = (segments-place (c .args .abi), omega arith)
+
+pub segments-at-spec : {M : Type 1} → statement M
+segments-at-spec = tie.close (tie.spec returns)

@@ -1,0 +1,42 @@
+// The words of the extents: four to each of eleven places, in the order frame, first sector, length, disk sector.
+ghost use mathlib.Core.Path.{_≡_};
+ghost use mathlib.Core.List.{[], _∷_, _++_};
+ghost use Prim.Native.Nat.{_*_, _-_, _<_, _≤_};
+ghost use lib.ListN.{length, take};
+ghost use lib.Seq.{sets};
+ghost use Rattle.model.specs.Plan.{extentWords};
+
+// Says nothing of its words; lent an array as a slice, it shows a proof their number.
+fn seen(words: &[u64]) {}
+
+// That the words are 44.
+pub fn known(words: &[u64; 44])
+    ensures { λ _. ⌜ length (now (words .entry)) ≡ 44 ⌝ }
+{
+    seen(words);
+}
+
+// The four words of place i.
+pub fn put(words: &mut [u64; 44], i: usize, frame: u64, first: u64, len: u64, sector: u64)
+    requires { ⌜ i < 11 ⌝ }
+    ensures { λ _. ⌜ now (words .exit) ≡ sets (now (words .entry)) (4 * i) (frame ∷ first ∷ len ∷ sector ∷ []) ⌝ }
+{
+    let at = 4 * i;
+    words[at] = frame;
+    words[at + 1] = first;
+    words[at + 2] = len;
+    words[at + 3] = sector;
+}
+
+// Zeros in every place from `from` on.
+pub fn clear_from(words: &mut [u64; 44], from: usize)
+    requires { ⌜ from ≤ 11 ⌝ }
+    ensures { λ _. ⌜ now (words .exit) ≡ take (4 * from) (now (words .entry)) ++ extentWords (11 - from) [] ⌝ }
+{
+    known(words);
+    let mut i = from;
+    while i < 11 {
+        put(words, i, 0, 0, 0, 0);
+        i += 1;
+    }
+}
