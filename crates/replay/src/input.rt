@@ -1,0 +1,86 @@
+// Lines, and the decimal numbers in them. In a line, what is no digit only parts the numbers.
+ghost use Prim.Native.Nat.{_≤_};
+ghost use lib.ListN.{length};
+ghost use Rattle.io.specs.Counts.{Counts};
+
+// A number, and where the line goes on behind it.
+struct Read {
+    value: u64,
+    next: usize,
+}
+
+// Where the byte first stands in the text, from a place on; the text's length where it does not.
+pub fn find(text: &[u8], from: usize, byte: u8) -> usize
+    requires { ⌜ from ≤ length (now text) ⌝ }
+    ensures { λ r. ⌜ (from ≤ r) × Counts r (now (text .entry)) ⌝ }
+{
+    let mut i = from;
+    while i < text.len() {
+        if text[i] == byte {
+            return i;
+        }
+        i += 1;
+    }
+    i
+}
+
+fn wide(x: u8) -> u64 {
+    x as u64
+}
+
+// The next digit's place, or the line's end.
+fn skip(line: &[u8], from: usize) -> usize {
+    let mut i = from;
+    while i < line.len() {
+        if 48 <= line[i] {
+            if line[i] <= 57 {
+                return i;
+            }
+        }
+        i += 1;
+    }
+    i
+}
+
+// The number whose digits begin at `from`. A digit that would lead past 64 bits is passed over.
+fn number(line: &[u8], from: usize) -> Read {
+    let mut v: u64 = 0;
+    let mut i = from;
+    while i < line.len() {
+        let c = line[i];
+        if c < 48 {
+            return Read { value: v, next: i };
+        }
+        if 57 < c {
+            return Read { value: v, next: i };
+        }
+        let d = wide(c - 48);
+        if v <= (18446744073709551615 - d) / 10 {
+            v = v * 10 + d;
+        }
+        i += 1;
+    }
+    Read { value: v, next: i }
+}
+
+// The numbers of a line, each also as a byte; returns how many there are, at most as many as there are places for bytes.
+pub fn numbers(line: &[u8], words: &mut [u64; 128], bytes: &mut [u8]) -> usize
+    ensures { λ r. ⌜ Counts r (now (bytes .exit)) ⌝ }
+{
+    let mut at: usize = 0;
+    let mut i: usize = 0;
+    while i < bytes.len() {
+        at = skip(line, at);
+        if line.len() <= at {
+            return i;
+        }
+        let r = number(line, at);
+        if i < 128 {
+            words[i] = r.value;
+        }
+        bytes[i] = (r.value % 256) as u8;
+        at = r.next;
+        i += 1;
+    }
+    i
+}

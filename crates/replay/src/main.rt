@@ -1,0 +1,242 @@
+// Runs a list of calls from the empty backend and writes each answer, a line to each.
+//
+// The input, from standard input, at most 65,536 bytes: a letter begins a line, and decimal numbers follow, at most 128, each behind a blank.
+//   # TEXT                        a comment, written out as it stands
+//   b PORT OFFSET BYTE ..         bytes into the port's page, from this offset on: what a guest writes
+//   g PORT FRAME BYTE             the port's grant byte for this frame
+//   o PORT BYTE ..                open with this sheet
+//   c PORT                        close
+//   t                             turn
+//   T RINGS GRANTS                turn, with buffers lent of these lengths
+//   f PORT TAG SERIAL RESULT      complete; the result from -2147483647 to 2147483647
+//   F RINGS PORT TAG SERIAL RESULT    complete, with a buffer lent of this length
+//
+// The output of a call is its name, then `refused NUMBER` or its answer: `done`, `idle`, `overrun`, `started` with the plan and, behind a bar each, the
+// extents' frame, first sector, length and disk sector; `answered` with reason and status; `notify` where the guest is to be notified. Then each ring
+// byte that the call changed, as PLACE:BYTE, its place in the 32,768.
+//
+// Only safety is proved here: that each answer is right is proved in `backend`.
+mod input;
+mod output;
+
+use libc::STDIN_FILENO;
+use memory::WORDS;
+use model::PortId;
+use model::Serial;
+use model::TagId;
+ghost use Rattle.io.specs.Counts.{Counts};
+
+// The lower 32 bits, where a line has a larger number.
+fn narrow(n: u64) -> u32 {
+    (n % 4294967296) as u32
+}
+
+// A length, cut to what there is to lend.
+fn within(n: u64, lent: &[u8]) -> usize
+    ensures { λ r. ⌜ Counts r (now (lent .entry)) ⌝ }
+{
+    let count = n as usize;
+    if lent.len() < count {
+        return lent.len();
+    }
+    count
+}
+
+// A result with its sign.
+fn signed(n: u64, negative: bool) -> i32 {
+    let size = (n % 2147483648) as i32;
+    if negative {
+        return -size;
+    }
+    size
+}
+
+// The bytes from a place on, as far as the rings go.
+fn put_bytes(rings: &mut [u8; 32768], from: usize, bytes: &[u8]) {
+    let mut at = from;
+    let mut i = 0;
+    while i < bytes.len() {
+        if at < 32768 {
+            rings[at] = bytes[i];
+            at += 1;
+        }
+        i += 1;
+    }
+}
+
+// What a guest writes counts as shown: only a call's own changes are told.
+fn guest(rings: &mut [u8; 32768], shown: &mut [u8; 32768], c: &[u64; 128], bytes: &[u8]) {
+    if bytes.len() < 2 {
+        return;
+    }
+    let at = (c[0] % 8 * 4096 + c[1] % 4096) as usize;
+    put_bytes(rings, at, &bytes[2..]);
+    put_bytes(shown, at, &bytes[2..]);
+}
+
+fn grant(grants: &mut [u8; 8192], c: &[u64; 128]) {
+    let at = (c[0] % 8 * 1024 + c[1] % 1024) as usize;
+    grants[at] = (c[2] % 256) as u8;
+}
+
+// The sheet stands behind the port.
+fn open(memory: &mut [u64; WORDS], c: &[u64; 128], bytes: &[u8]) {
+    output::text(b"open");
+    if bytes.len() < 1 {
+        return;
+    }
+    let answer = backend::open(memory, PortId(narrow(c[0])), &bytes[1..]);
+    output::reply(answer);
+}
+
+fn close(memory: &mut [u64; WORDS], c: &[u64; 128]) {
+    output::text(b"close");
+    let answer = backend::close(memory, PortId(narrow(c[0])));
+    output::reply(answer);
+}
+
+// A turn that is lent the first r bytes of the rings and the first g of the grants. The words are filled with ones first, so that a word that is not
+// cleared would show.
+fn turn(memory: &mut [u64; WORDS], rings: &mut [u8], grants: &[u8], r: u64, g: u64) {
+    output::text(b"turn");
+    let mut words = [1u64; 44];
+    let lent = within(r, rings);
+    let granted = within(g, grants);
+    let answer = backend::turn(memory, &mut rings[..lent], &grants[..granted], &mut words);
+    output::turned(answer, &words);
+}
+
+// A completion that is lent the first r bytes of the rings.
+fn complete(memory: &mut [u64; WORDS], rings: &mut [u8], r: u64, names: [u64; 3], result: i32) {
+    output::text(b"complete");
+    let lent = within(r, rings);
+    let answer = backend::complete(
+        memory,
+        &mut rings[..lent],
+        PortId(narrow(names[0])),
+        TagId(narrow(names[1])),
+        Serial(narrow(names[2])),
+        result,
+    );
+    output::completed(answer);
+}
+
+// One of the four calls.
+fn call(
+    memory: &mut [u64; WORDS],
+    rings: &mut [u8; 32768],
+    grants: &[u8; 8192],
+    letter: u8,
+    c: &[u64; 128],
+    negative: bool,
+) {
+    if letter == b'c' {
+        close(memory, c);
+    }
+    if letter == b't' {
+        turn(memory, rings, grants, 32768, 8192);
+    }
+    if letter == b'T' {
+        turn(memory, rings, grants, c[0], c[1]);
+    }
+    if letter == b'f' {
+        complete(
+            memory,
+            rings,
+            32768,
+            [c[0], c[1], c[2]],
+            signed(c[3], negative),
+        );
+    }
+    if letter == b'F' {
+        complete(
+            memory,
+            rings,
+            c[0],
+            [c[1], c[2], c[3]],
+            signed(c[4], negative),
+        );
+    }
+}
+
+// A line that is no comment. Only a result can be negative, so a minus sign anywhere is its own.
+fn run_line(
+    memory: &mut [u64; WORDS],
+    rings: &mut [u8; 32768],
+    shown: &mut [u8; 32768],
+    grants: &mut [u8; 8192],
+    line: &[u8],
+    letter: u8,
+) {
+    let mut c = [0u64; 128];
+    let mut bytes = [0u8; 128];
+    let n = input::numbers(line, &mut c, &mut bytes);
+    if letter == b'b' {
+        guest(rings, shown, &c, &bytes[..n]);
+        return;
+    }
+    if letter == b'g' {
+        grant(grants, &c);
+        return;
+    }
+    if letter == b'o' {
+        open(memory, &c, &bytes[..n]);
+    } else {
+        call(
+            memory,
+            rings,
+            grants,
+            letter,
+            &c,
+            input::find(line, 0, b'-') < line.len(),
+        );
+    }
+    output::changed(shown, rings);
+    output::text(b"\n");
+}
+
+// A line of the input. An empty one says nothing.
+fn read_line(
+    memory: &mut [u64; WORDS],
+    rings: &mut [u8; 32768],
+    shown: &mut [u8; 32768],
+    grants: &mut [u8; 8192],
+    line: &[u8],
+) {
+    if line.len() == 0 {
+        return;
+    }
+    let letter = line[0];
+    if letter == b'#' {
+        output::text(line);
+        output::text(b"\n");
+        return;
+    }
+    run_line(memory, rings, shown, grants, line, letter);
+}
+
+// Every line of the input, from the empty backend.
+fn run(text: &[u8]) {
+    let mut memory = [0u64; WORDS];
+    let mut rings = [0u8; 32768];
+    let mut shown = [0u8; 32768];
+    let mut grants = [0u8; 8192];
+    let mut at = 0;
+    while at < text.len() {
+        let end = input::find(text, at, b'\n');
+        read_line(
+            &mut memory,
+            &mut rings,
+            &mut shown,
+            &mut grants,
+            &text[at..end],
+        );
+        at = end + 1;
+    }
+}
+
+fn main() {
+    let mut text = io::large_buffer();
+    let n = io::read_full(STDIN_FILENO, &mut text);
+    run(&text[..n]);
+}

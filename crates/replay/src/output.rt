@@ -1,0 +1,152 @@
+// Answers, as text.
+use libc::STDOUT_FILENO;
+use model::Completed;
+use model::Plan;
+use model::PortId;
+use model::Reply;
+use model::Serial;
+use model::Status;
+use model::TagId;
+use model::Turned;
+
+pub fn text(s: &[u8]) {
+    io::write_all(STDOUT_FILENO, s);
+}
+
+// A number behind a blank.
+fn word(w: u64) {
+    text(b" ");
+    io::print_decimal(STDOUT_FILENO, w);
+}
+
+fn status(s: Status) {
+    match s {
+        Status::Okay => text(b" status 0"),
+        Status::Error => text(b" status -1"),
+        Status::NotSupported => text(b" status -2"),
+    }
+}
+
+fn notify(yes: bool) {
+    if yes {
+        text(b" notify");
+    }
+}
+
+fn refused(n: u32) {
+    text(b" refused");
+    word(n as u64);
+}
+
+// The words of n extents, and those of unused places where one is not zero.
+fn extents(words: &[u64; 44], n: u32) {
+    let mut i: usize = 0;
+    while i < 44 {
+        if i < 4 * (n as usize) || words[i] != 0 {
+            if i % 4 == 0 {
+                text(b" |");
+            }
+            word(words[i]);
+        }
+        i += 1;
+    }
+}
+
+fn plan(p: Plan) {
+    text(b" operation");
+    word(p.operation as u64);
+    text(b" start");
+    word(p.start);
+    text(b" count");
+    word(p.count);
+    if p.secure {
+        text(b" secure");
+    }
+    text(b" extents");
+    word(p.extents as u64);
+}
+
+fn started(port: PortId, tag: TagId, serial: Serial) {
+    text(b" started port");
+    word(port.0 as u64);
+    text(b" tag");
+    word(tag.0 as u64);
+    text(b" serial");
+    word(serial.0 as u64);
+}
+
+fn answered(port: PortId, reason: u32, s: Status, yes: bool) {
+    text(b" answered port");
+    word(port.0 as u64);
+    text(b" reason");
+    word(reason as u64);
+    status(s);
+    notify(yes);
+}
+
+// The answer of open and close.
+pub fn reply(r: Reply) {
+    match r {
+        Reply::Refused(n) => refused(n),
+        Reply::Done => text(b" done"),
+    }
+}
+
+// The answer of a turn, with the words that it leaves. A refused turn leaves them as they were, and shows none.
+pub fn turned(t: Turned, words: &[u64; 44]) {
+    match t {
+        Turned::Refused(n) => refused(n),
+        Turned::Idle => {
+            text(b" idle");
+            extents(words, 0);
+        }
+        Turned::Overrun(port) => {
+            text(b" overrun port");
+            word(port.0 as u64);
+            extents(words, 0);
+        }
+        Turned::Started(port, tag, serial, p) => {
+            let n = p.extents;
+            started(port, tag, serial);
+            plan(p);
+            extents(words, n);
+        }
+        Turned::Answered(port, reason, s, yes) => {
+            answered(port, reason, s, yes);
+            extents(words, 0);
+        }
+    }
+}
+
+// The answer of a completion.
+pub fn completed(c: Completed) {
+    match c {
+        Completed::Refused(n) => refused(n),
+        Completed::Done(port, s, yes) => {
+            text(b" done port");
+            word(port.0 as u64);
+            status(s);
+            notify(yes);
+        }
+    }
+}
+
+// A ring byte and its place.
+fn byte(place: usize, b: u8) {
+    word(place as u64);
+    text(b":");
+    io::print_decimal(STDOUT_FILENO, b as u64);
+}
+
+// Each ring byte that differs from what was shown last; from then on it counts as shown.
+pub fn changed(shown: &mut [u8; 32768], rings: &[u8; 32768]) {
+    let mut i: usize = 0;
+    while i < 32768 {
+        let b = rings[i];
+        if shown[i] != b {
+            byte(i, b);
+            shown[i] = b;
+        }
+        i += 1;
+    }
+}
