@@ -1,0 +1,265 @@
+//! The checker of demand 3 says no where it has to: histories made by hand, no backend in them.
+
+mod common;
+
+use common::usual_sheet;
+use kernelharp_host::demand3::{Event, History};
+use kernelharp_host::reference::{DONE_WORDS, GRANTS_BYTES, RINGS_BYTES, TURN_WORDS};
+
+/// A history with the first `ports` ports open, and the rings lent to it. All requests are
+/// zeros: the pair (0, 0), which zeros in a response answer.
+struct Story {
+    history: History,
+    rings: Vec<u8>,
+    left: Vec<u8>,
+}
+
+type Checked = Result<(), String>;
+
+impl Story {
+    fn new(ports: u32) -> Story {
+        let mut story = Story {
+            history: History::new(),
+            rings: vec![0; RINGS_BYTES],
+            left: vec![0; RINGS_BYTES],
+        };
+        for port in 0..ports {
+            story.open(port, 0).unwrap();
+        }
+        story
+    }
+
+    fn open(&mut self, port: u32, code: u32) -> Checked {
+        let sheet = &usual_sheet();
+        self.history.check(&Event::Open { port, sheet, code })
+    }
+
+    fn close(&mut self, port: u32, code: u32) -> Checked {
+        self.history.check(&Event::Close { port, code })
+    }
+
+    fn set(&mut self, port: usize, at: usize, value: u32) {
+        self.rings[4096 * port + at..][..4].copy_from_slice(&value.to_le_bytes());
+        self.left.clone_from(&self.rings);
+    }
+
+    fn req_prod(&mut self, port: usize, value: u32) {
+        self.set(port, 0, value);
+    }
+
+    fn turn(&mut self, words: &[u64]) -> Checked {
+        let mut answer = [0; TURN_WORDS];
+        answer[..words.len()].copy_from_slice(words);
+        let checked = self.history.check(&Event::Turn {
+            lent: &self.rings,
+            left: &self.left,
+            grants: &[0; GRANTS_BYTES],
+            code: 0,
+            answer: &answer,
+        });
+        self.rings.clone_from(&self.left);
+        checked
+    }
+
+    /// A turn that answers a request with a reason.
+    fn answered(&mut self, port: u64) -> Checked {
+        self.turn(&[2, port])
+    }
+
+    fn started(&mut self, port: u64, tag: u64, serial: u64) -> Checked {
+        self.turn(&[1, port, tag, serial])
+    }
+
+    fn complete(&mut self, port: u32, tag: u32, serial: u32, code: u32) -> Checked {
+        let mut answer = [0; DONE_WORDS];
+        answer[0] = u64::from(port);
+        self.history.check(&Event::Complete {
+            lent: &self.rings,
+            left: &self.left,
+            port,
+            tag,
+            serial,
+            result: 0,
+            code,
+            answer: &answer,
+        })
+    }
+}
+
+#[track_caller]
+fn faulty(checked: Checked, words: &str) {
+    let fault = checked.expect_err("the checker saw no fault");
+    assert!(fault.contains(words), "another fault: {fault}");
+}
+
+#[test]
+fn another_port_served_twice() {
+    let mut story = Story::new(3);
+    for port in 0..3 {
+        story.req_prod(port, 9);
+    }
+    story.answered(1).unwrap();
+    story.answered(0).unwrap();
+    faulty(story.answered(1), "port 2: port 1 is served twice");
+}
+
+#[test]
+fn a_port_with_nothing_for_a_turn_starts_anew() {
+    let mut story = Story::new(2);
+    story.req_prod(0, 9);
+    story.req_prod(1, 9);
+    story.answered(0).unwrap();
+    story.req_prod(1, 0);
+    story.answered(0).unwrap();
+    story.req_prod(1, 9);
+    story.answered(0).unwrap();
+    faulty(story.answered(0), "port 1: port 0 is served twice");
+}
+
+#[test]
+fn reopening_does_not_start_the_wait_anew() {
+    let mut story = Story::new(2);
+    story.req_prod(0, 9);
+    story.req_prod(1, 9);
+    story.answered(0).unwrap();
+    story.close(1, 0).unwrap();
+    story.open(1, 0).unwrap();
+    faulty(story.answered(0), "port 1: port 0 is served twice");
+}
+
+#[test]
+fn all_others_once_is_fair() {
+    let mut story = Story::new(8);
+    for port in 0..8 {
+        story.req_prod(port, 9);
+    }
+    for port in [3, 1, 0, 7, 6, 2, 4] {
+        story.answered(port).unwrap();
+    }
+    assert_eq!(story.history.longest_wait(), 7);
+    faulty(story.answered(3), "port 5: eight turns in a row");
+}
+
+#[test]
+fn idle_against_the_rule() {
+    let mut story = Story::new(1);
+    faulty(story.turn(&[0]), "an idle turn");
+    let mut story = Story::new(1);
+    story.left[4] = 1;
+    story.turn(&[0]).unwrap();
+    story.req_prod(0, 1);
+    faulty(story.turn(&[0]), "idle, but port 0");
+}
+
+#[test]
+fn served_with_nothing() {
+    faulty(Story::new(1).answered(0), "with nothing to serve");
+    let mut story = Story::new(1);
+    story.req_prod(1, 1);
+    faulty(story.answered(1), "with nothing to serve");
+    let mut story = Story::new(1);
+    story.req_prod(0, 1);
+    faulty(story.answered(8), "names port 8");
+    faulty(story.turn(&[4]), "kind 4");
+}
+
+#[test]
+fn overrun_against_the_rule() {
+    let mut story = Story::new(1);
+    story.req_prod(0, 32);
+    faulty(story.turn(&[3, 0]), "not due");
+    let mut story = Story::new(1);
+    story.req_prod(0, 33);
+    faulty(story.answered(0), "an overrun was due");
+    let mut story = Story::new(1);
+    story.req_prod(0, 33);
+    story.turn(&[3, 0]).unwrap();
+    // Broken: nothing to serve, not armed, not closed.
+    story.turn(&[0]).unwrap();
+    faulty(story.open(0, 0), "due was 3");
+}
+
+#[test]
+fn overrun_counts_what_is_in_flight() {
+    let mut story = Story::new(1);
+    story.req_prod(0, 32);
+    story.started(0, 0, 0).unwrap();
+    story.req_prod(0, 33);
+    faulty(story.started(0, 1, 1), "an overrun was due");
+}
+
+#[test]
+fn starts_name_lowest_tag_and_serial() {
+    for (tag, serial) in [(0, 1), (2, 1), (1, 0), (1, 2), (32, 1), (u64::MAX, 1)] {
+        let mut story = Story::new(1);
+        story.req_prod(0, 9);
+        story.started(0, 0, 0).unwrap();
+        faulty(story.started(0, tag, serial), "due were 1 and 1");
+    }
+    let mut story = Story::new(1);
+    story.req_prod(0, 9);
+    story.started(0, 0, 0).unwrap();
+    story.started(0, 1, 1).unwrap();
+    story.complete(0, 0, 0, 0).unwrap();
+    story.started(0, 0, 2).unwrap();
+}
+
+#[test]
+fn an_answer_with_another_pair() {
+    let mut story = Story::new(1);
+    story.req_prod(0, 9);
+    story.left[64 + 8] = 1;
+    faulty(story.answered(0), "pairs taken");
+    let mut story = Story::new(1);
+    story.req_prod(0, 9);
+    story.started(0, 0, 0).unwrap();
+    story.left[64] = 1;
+    faulty(story.complete(0, 0, 0, 0), "pairs taken");
+}
+
+#[test]
+fn a_pair_is_read_when_taken() {
+    let mut story = Story::new(1);
+    story.set(0, 64 + 8, 77);
+    story.req_prod(0, 1);
+    story.started(0, 0, 0).unwrap();
+    // What the guest writes later changes nothing: 77 is due.
+    story.set(0, 64 + 8, 78);
+    story.set(0, 64, 77);
+    story.rings[64 + 8] = 0;
+    story.left[64 + 8] = 0;
+    story.complete(0, 0, 0, 0).unwrap();
+}
+
+#[test]
+fn answered_twice() {
+    let mut story = Story::new(1);
+    story.req_prod(0, 9);
+    story.started(0, 0, 0).unwrap();
+    story.complete(0, 0, 0, 0).unwrap();
+    faulty(story.complete(0, 0, 0, 0), "due was 6");
+}
+
+#[test]
+fn refusals_against_the_rule() {
+    let mut story = Story::new(1);
+    faulty(story.open(1, 13), "due was 0");
+    faulty(story.open(0, 0), "due was 3");
+    faulty(story.open(8, 3), "due was 2");
+    faulty(story.close(0, 5), "due was 0");
+    faulty(story.close(1, 0), "due was 4");
+    faulty(story.complete(0, 0, 0, 4), "due was 6");
+    faulty(story.complete(1, 0, 0, 6), "due was 4");
+    story.req_prod(0, 1);
+    story.started(0, 0, 0).unwrap();
+    faulty(story.close(0, 0), "due was 5");
+    faulty(story.complete(0, 0, 0, 6), "due was 0");
+}
+
+#[test]
+fn a_refused_call_that_writes() {
+    let mut story = Story::new(1);
+    story.complete(0, 0, 0, 6).unwrap();
+    story.left[0] = 1;
+    faulty(story.complete(0, 0, 0, 6), "a refused call changed");
+}

@@ -1,0 +1,193 @@
+//! Long random runs: the reference alone with the checker of demand 3 and the census, and the
+//! comparison of two programs.
+
+use kernelharp_host::generate::{list, run, Core, Generator, World};
+use kernelharp_host::reference::{Backend, DONE_WORDS, TURN_WORDS};
+
+const SEED: u64 = 0x6B65_726E_656C;
+
+#[test]
+fn random_calls_keep_demand_3() {
+    let (seed, calls) = (SEED, 200_000);
+    println!("seed {seed}, {calls} calls");
+    let begun = std::time::Instant::now();
+    let report = run(&mut [&mut Backend::new()], seed, calls).unwrap_or_else(|at| panic!("{at}"));
+    println!("{}", report.census);
+    println!("longest wait: {} turns", report.longest_wait);
+    println!("{:?}", begun.elapsed());
+    let missing = report.census.missing();
+    assert!(missing.is_empty(), "did not occur: {missing:#?}");
+    // With eight ports busy at times, somebody waited for all the others.
+    assert_eq!(report.longest_wait, 7);
+}
+
+/// For a longer look: `KH_SEED=7 KH_CALLS=5000000 cargo test --release -- --ignored --nocapture`.
+#[test]
+#[ignore = "as long as KH_CALLS says"]
+fn long_run_keeps_demand_3() {
+    let number = |name, usual| {
+        let set = std::env::var(name);
+        set.map_or(usual, |text| text.parse().expect("a number"))
+    };
+    let (seed, calls) = (number("KH_SEED", SEED), number("KH_CALLS", 1_000_000));
+    println!("seed {seed}, {calls} calls");
+    let begun = std::time::Instant::now();
+    let report = run(&mut [&mut Backend::new()], seed, calls).unwrap_or_else(|at| panic!("{at}"));
+    println!("{}{:?}", report.census, begun.elapsed());
+}
+
+#[test]
+fn other_seeds_keep_demand_3() {
+    for seed in 1..=5 {
+        println!("seed {seed}");
+        run(&mut [&mut Backend::new()], seed, 4_000).unwrap_or_else(|at| panic!("{at}"));
+    }
+}
+
+#[test]
+fn two_references_agree() {
+    let (mut one, mut other) = (Backend::new(), Backend::new());
+    run(&mut [&mut one, &mut other], SEED, 5_000).unwrap_or_else(|at| panic!("{at}"));
+    assert_eq!(one, other);
+}
+
+#[test]
+fn a_list_is_the_same_again() {
+    let steps = list(SEED, 2_000);
+    assert_eq!(steps, list(SEED, 2_000));
+    // A generator that leads another program makes the same steps.
+    let (mut generator, mut backend, mut world) =
+        (Generator::new(SEED), Backend::new(), World::new());
+    for step in steps {
+        assert_eq!(step, generator.next_step(&world));
+        let outcome = world.run(&mut backend, &step);
+        generator.observe(&step.call, &outcome);
+    }
+}
+
+#[test]
+fn refused_calls_leave_the_backend() {
+    let (mut generator, mut backend, mut world) =
+        (Generator::new(SEED), Backend::new(), World::new());
+    let mut refused = 0;
+    for _ in 0..10_000 {
+        let step = generator.next_step(&world);
+        let before = backend.clone();
+        let outcome = world.run(&mut backend, &step);
+        if outcome.code != 0 {
+            assert_eq!(before, backend);
+            refused += 1;
+        }
+        generator.observe(&step.call, &outcome);
+    }
+    assert!(refused > 500, "only {refused} refused calls");
+}
+
+/// The shapes of wrong programs that a wrapper around the reference can take.
+#[derive(Clone, Copy, Debug)]
+enum Flaw {
+    /// Guest bytes stay in the response's padding.
+    Padding,
+    /// rsp_prod is taken from the page.
+    RspProd,
+    /// A count is invented.
+    Count,
+    /// Notify is always yes.
+    Notify,
+    /// A refused call touches its answer.
+    Answer,
+    /// A closed port is closed once more without a word.
+    Close,
+    /// A sheet of a wrong shape is refused with another number.
+    Sheet,
+}
+
+struct Flawed {
+    backend: Backend,
+    flaw: Flaw,
+}
+
+impl Core for Flawed {
+    fn open(&mut self, port: u32, sheet: &[u8]) -> u32 {
+        let code = Core::open(&mut self.backend, port, sheet);
+        match self.flaw {
+            Flaw::Sheet if code == 11 => 13,
+            _ => code,
+        }
+    }
+
+    fn close(&mut self, port: u32) -> u32 {
+        match (Core::close(&mut self.backend, port), self.flaw) {
+            (4, Flaw::Close) => 0,
+            (code, _) => code,
+        }
+    }
+
+    fn turn(&mut self, rings: &mut [u8], grants: &[u8], answer: &mut [u64; TURN_WORDS]) -> u32 {
+        let lent = rings.to_vec();
+        let code = Core::turn(&mut self.backend, rings, grants, answer);
+        match self.flaw {
+            Flaw::Padding if code == 0 && answer[0] == 2 => {
+                let page = 4096 * answer[1] as usize;
+                let index = u32::from_le_bytes(rings[page + 8..page + 12].try_into().unwrap());
+                let at = page + 64 + 112 * (index.wrapping_sub(1) as usize % 32) + 12;
+                rings[at..at + 4].copy_from_slice(&lent[at..at + 4]);
+            }
+            Flaw::RspProd if code == 0 && answer[0] == 2 => {
+                let at = 4096 * answer[1] as usize + 8;
+                let old = u32::from_le_bytes(lent[at..at + 4].try_into().unwrap());
+                rings[at..at + 4].copy_from_slice(&old.wrapping_add(1).to_le_bytes());
+            }
+            Flaw::Count if code == 0 && answer[0] == 1 && answer[8] == 11 => answer[6] += 1,
+            Flaw::Answer if code != 0 => answer[0] = 0,
+            _ => {}
+        }
+        code
+    }
+
+    fn complete(
+        &mut self,
+        rings: &mut [u8],
+        port: u32,
+        tag: u32,
+        serial: u32,
+        result: i32,
+        answer: &mut [u64; DONE_WORDS],
+    ) -> u32 {
+        let code = Core::complete(&mut self.backend, rings, port, tag, serial, result, answer);
+        if matches!(self.flaw, Flaw::Notify) && code == 0 {
+            answer[2] = 1;
+        }
+        code
+    }
+}
+
+#[test]
+fn flawed_programs_are_found() {
+    for flaw in [
+        Flaw::Padding,
+        Flaw::RspProd,
+        Flaw::Count,
+        Flaw::Notify,
+        Flaw::Answer,
+        Flaw::Close,
+        Flaw::Sheet,
+    ] {
+        let backend = Backend::new();
+        let mut flawed = Flawed { backend, flaw };
+        let failure = run(&mut [&mut Backend::new(), &mut flawed], SEED, 20_000)
+            .expect_err("a flawed program agrees with the reference");
+        println!("{flaw:?}: {failure}");
+    }
+}
+
+#[test]
+fn flaws_against_demand_3_are_found_without_a_second_program() {
+    for flaw in [Flaw::Answer, Flaw::Close, Flaw::Sheet] {
+        let backend = Backend::new();
+        let mut flawed = Flawed { backend, flaw };
+        let failure =
+            run(&mut [&mut flawed], SEED, 20_000).expect_err("a flawed program keeps demand 3");
+        println!("{flaw:?}: {failure}");
+    }
+}
