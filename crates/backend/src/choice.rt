@@ -41,7 +41,8 @@ fn look_at(memory: &[u64; WORDS], rings: &[u8], k: usize) -> Look
     }
 }
 
-// Looks at the ports in ring order from the pointer, and stops at the first with something to serve.
+// Looks at the ports in ring order from the pointer, and stops at the first with something to serve. Reads bytes 0 to 3 of the page of each
+// open port that it comes to, once each.
 pub fn pick_port(memory: &[u64; WORDS], rings: &[u8]) -> Pick
     requires { ⌜ length (now rings) ≡ ringsLength ⌝ }
     ensures { λ r. ⌜ r ≡ picked (viewOf (backendOf (now (memory .entry)))) (now (rings .entry)) ⌝ }

@@ -68,7 +68,7 @@ fn finish(
     Completed::Done(PortId(k as u32), status, notify)
 }
 
-// Completes a started request with the host's result.
+// Completes a started request with the host's result. Reads the page only as `finish` does.
 pub fn complete(
     memory: &mut [u64; WORDS],
     rings: &mut [u8],

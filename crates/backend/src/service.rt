@@ -118,6 +118,7 @@ fn decline(
 }
 
 // Takes one request from port k and judges it. The 112 bytes of its slot are read once, into a copy; all that follows looks at the copy.
+// Of the page it reads no more than that and what `decline` reads.
 fn take(
     memory: &mut [u64; WORDS],
     rings: &mut [u8],
@@ -144,6 +145,7 @@ fn take(
 }
 
 // Serves port k, whose req_prod was read as `published`: an overrun breaks it, else its next request is taken.
+// Reads the page only as `take` does.
 pub fn serve(
     memory: &mut [u64; WORDS],
     rings: &mut [u8],

@@ -7,9 +7,9 @@
 //   o PORT BYTE ..                open with this sheet
 //   c PORT                        close
 //   t                             turn
-//   T RINGS GRANTS                turn, with buffers lent of these lengths
+//   T RINGS GRANTS                turn, with buffers lent of these lengths, at most 32768 and 8192
 //   f PORT TAG SERIAL RESULT      complete; the result from -2147483647 to 2147483647
-//   F RINGS PORT TAG SERIAL RESULT    complete, with a buffer lent of this length
+//   F RINGS PORT TAG SERIAL RESULT    complete, with a buffer lent of this length, at most 32768
 //
 // The output of a call is its name, then `refused NUMBER` or its answer: `done`, `idle`, `overrun`, `started` with the plan and, behind a bar each, the
 // extents' frame, first sector, length and disk sector; `answered` with reason and status; `notify` where the guest is to be notified. Then each ring

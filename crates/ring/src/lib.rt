@@ -145,6 +145,7 @@ fn publish(page: &mut [u8], produced: u32) -> bool
 }
 
 // A response into the page: its bytes, then rsp_prod from our own index. The answer is whether to notify the guest.
+// Reads bytes 12 to 15, once.
 pub fn write_response(
     page: &mut [u8],
     params: model::Params,

@@ -1,0 +1,172 @@
+//! The replayed list of calls, run through the reference: its lines are those that the proved
+//! program wrote, answers and changed page bytes alike.
+
+use kernelharp_host::reference::{Backend, Done, Turned};
+use std::fmt::Write;
+use std::str::FromStr;
+
+const CALLS: &str = include_str!("../../crates/replay/stdin");
+const LINES: &str = include_str!("../../crates/replay/stdout");
+
+const RINGS: usize = 8 * 4096;
+const GRANTS: usize = 8 * 1024;
+
+/// The words of one line after its letter.
+struct Words<'a>(std::str::Split<'a, char>);
+
+impl Words<'_> {
+    fn next<T: FromStr>(&mut self) -> T {
+        let word = self.0.next().expect("one more number");
+        word.parse()
+            .unwrap_or_else(|_| panic!("{word} is no number"))
+    }
+
+    fn rest(self) -> Vec<u8> {
+        self.0.map(|word| word.parse().expect("a byte")).collect()
+    }
+}
+
+fn notify(wanted: bool) -> &'static str {
+    if wanted {
+        " notify"
+    } else {
+        ""
+    }
+}
+
+fn plain(call: &str, answer: Result<(), u32>) -> String {
+    match answer {
+        Ok(()) => format!("{call} done"),
+        Err(number) => format!("{call} refused {number}"),
+    }
+}
+
+fn turned(answer: Result<Turned, u32>) -> String {
+    match answer {
+        Err(number) => format!("turn refused {number}"),
+        Ok(Turned::Idle) => "turn idle".to_string(),
+        Ok(Turned::Overrun { port }) => format!("turn overrun port {port}"),
+        Ok(Turned::Answered {
+            port,
+            reason,
+            status,
+            notify: wanted,
+        }) => format!(
+            "turn answered port {port} reason {} status {}{}",
+            reason as u32,
+            status as i16,
+            notify(wanted)
+        ),
+        Ok(Turned::Started(plan)) => {
+            let mut line = format!(
+                "turn started port {} tag {} serial {} operation {} start {} count {}{} extents {}",
+                plan.port,
+                plan.tag,
+                plan.serial,
+                plan.operation as u8,
+                plan.start,
+                plan.count,
+                if plan.secure { " secure" } else { "" },
+                plan.extents.len()
+            );
+            for extent in &plan.extents {
+                write!(
+                    line,
+                    " | {} {} {} {}",
+                    extent.frame, extent.first_sector, extent.length, extent.disk_sector
+                )
+                .unwrap();
+            }
+            line
+        }
+    }
+}
+
+fn completed(answer: Result<Done, u32>) -> String {
+    match answer {
+        Err(number) => format!("complete refused {number}"),
+        Ok(done) => format!(
+            "complete done port {} status {}{}",
+            done.port,
+            done.status as i16,
+            notify(done.notify)
+        ),
+    }
+}
+
+/// A backend and the pages lent to it.
+struct Host {
+    backend: Backend,
+    rings: Vec<u8>,
+    grants: Vec<u8>,
+}
+
+impl Host {
+    /// Does what one line of the list says: a guest's write has no answer, a remark is kept.
+    fn obey(&mut self, call: &str) -> Option<String> {
+        let Host {
+            backend,
+            rings,
+            grants,
+        } = self;
+        let mut parts = call.split(' ');
+        let letter = parts.next().unwrap();
+        let mut words = Words(parts);
+        match letter {
+            "b" => {
+                let at = words.next::<usize>() * 4096 + words.next::<usize>();
+                let bytes = words.rest();
+                rings[at..at + bytes.len()].copy_from_slice(&bytes);
+                None
+            }
+            "g" => {
+                let at = words.next::<usize>() * 1024 + words.next::<usize>();
+                grants[at] = words.next();
+                None
+            }
+            "o" => Some(plain("open", backend.open(words.next(), &words.rest()))),
+            "c" => Some(plain("close", backend.close(words.next()))),
+            "t" => Some(turned(backend.turn(rings, grants))),
+            "T" => {
+                let rings = &mut rings[..words.next()];
+                Some(turned(backend.turn(rings, &grants[..words.next()])))
+            }
+            "f" | "F" => {
+                let length = if letter == "F" { words.next() } else { RINGS };
+                let (port, tag, serial) = (words.next(), words.next(), words.next());
+                let rings = &mut rings[..length];
+                Some(completed(backend.complete(
+                    rings,
+                    port,
+                    tag,
+                    serial,
+                    words.next(),
+                )))
+            }
+            _ => Some(call.to_string()),
+        }
+    }
+}
+
+#[test]
+fn the_replayed_calls_answer_alike() {
+    let mut host = Host {
+        backend: Backend::new(),
+        rings: vec![0; RINGS],
+        grants: vec![0; GRANTS],
+    };
+    let mut due = LINES.lines();
+    for call in CALLS.lines() {
+        let before = host.rings.clone();
+        let Some(mut line) = host.obey(call) else {
+            continue;
+        };
+        for (at, (was, is)) in before.iter().zip(&host.rings).enumerate() {
+            if was != is {
+                write!(line, " {at}:{is}").unwrap();
+            }
+        }
+        assert_eq!(due.next(), Some(line.as_str()), "after the line {call}");
+    }
+    assert_eq!(due.next(), None);
+}
