@@ -1,5 +1,6 @@
 // The four calls: open and close a port, take a turn, complete a started request. All that is remembered between calls is the lent memory.
-// No call asks anything of its arguments: what it cannot take it refuses, with document 01's number, and then changes nothing.
+// No call asks anything of its arguments: what it cannot take it refuses, with document 01's number, and then changes nothing. `turn_into` is `turn` for
+// a caller that lends its words as a slice.
 mod attach;
 mod choice;
 mod completion;
@@ -10,6 +11,7 @@ pub use attach::close;
 pub use attach::open;
 pub use completion::complete;
 pub use turning::turn;
+pub use turning::turn_into;
 
 // The length of all ring pages, port k's at 4,096 x k.
 const RINGS: usize = 32768;

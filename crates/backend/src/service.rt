@@ -123,11 +123,11 @@ fn take(
     memory: &mut [u64; WORDS],
     rings: &mut [u8],
     grants: &[u8],
-    words: &mut [u64; 44],
+    words: &mut [u64],
     k: usize,
     p: Port,
 ) -> Turned
-    requires { ⌜ Room (now memory) k p × Lent (now rings) (now grants) ⌝ }
+    requires { ⌜ Room (now memory) k p × Lent (now rings) (now grants) × (length (now words) ≡ 44) ⌝ }
     ensures { λ r. ⌜ Turns (now (memory .entry)) (now (rings .entry)) (settledAt (now (memory .entry)) (now (rings .entry)) (now (grants .entry)) k) (now (rings .exit)) (now (words .exit)) r (now (memory .exit)) ⌝ }
 {
     let params = p.params;
@@ -150,11 +150,11 @@ pub fn serve(
     memory: &mut [u64; WORDS],
     rings: &mut [u8],
     grants: &[u8],
-    words: &mut [u64; 44],
+    words: &mut [u64],
     k: usize,
     published: u32,
 ) -> Turned
-    requires { ⌜ Waiting (now memory) (now rings) k published × Lent (now rings) (now grants) ⌝ }
+    requires { ⌜ Waiting (now memory) (now rings) k published × Lent (now rings) (now grants) × (length (now words) ≡ 44) ⌝ }
     ensures { λ r. ⌜ Turns (now (memory .entry)) (now (rings .entry)) (servedBy (viewOf (backendOf (now (memory .entry)))) (now (rings .entry)) (now (grants .entry)) k (pendingAt (viewOf (backendOf (now (memory .entry)))) (now (rings .entry)) k)) (now (rings .exit)) (now (words .exit)) r (now (memory .exit)) ⌝ }
 {
     let p = memory::port_at(memory, k);

@@ -46,14 +46,15 @@ fn arm_ports(memory: &[u64; WORDS], rings: &mut [u8])
     }
 }
 
-// Takes a turn. Of the rings it reads each open port's req_prod as far as it looks, once; of the port that it serves one slot, once; and rsp_event,
-// once, where it responds.
-pub fn turn(
+// Takes a turn whose words may stand within a longer answer: a part of a slice has no length in its type, so it is asked for. Of the rings it reads
+// each open port's req_prod as far as it looks, once; of the port that it serves one slot, once; and rsp_event, once, where it responds.
+pub fn turn_into(
     memory: &mut [u64; WORDS],
     rings: &mut [u8],
     grants: &[u8],
-    words: &mut [u64; 44],
+    words: &mut [u64],
 ) -> Turned
+    requires { ⌜ length (now words) ≡ 44 ⌝ }
     ensures { λ r. ⌜ Promised (now (memory .entry)) (Turn (now (rings .entry)) (now (grants .entry)) (now (words .entry))) (record { rings = now (rings .exit); words = now (words .exit); answer = r }) (now (memory .exit)) ⌝ }
 {
     if rings.len() != RINGS {
@@ -71,4 +72,16 @@ pub fn turn(
         }
         Pick::Port(k, published) => serve(memory, rings, grants, words, k, published),
     }
+}
+
+// Takes a turn. Reads the rings only as `turn_into` does.
+pub fn turn(
+    memory: &mut [u64; WORDS],
+    rings: &mut [u8],
+    grants: &[u8],
+    words: &mut [u64; 44],
+) -> Turned
+    ensures { λ r. ⌜ Promised (now (memory .entry)) (Turn (now (rings .entry)) (now (grants .entry)) (now (words .entry))) (record { rings = now (rings .exit); words = now (words .exit); answer = r }) (now (memory .exit)) ⌝ }
+{
+    turn_into(memory, rings, grants, words)
 }

@@ -6,19 +6,9 @@ ghost use lib.ListN.{length, take};
 ghost use lib.Seq.{sets};
 ghost use Rattle.model.specs.Plan.{extentWords};
 
-// Says nothing of its words; lent an array as a slice, it shows a proof their number.
-fn seen(words: &[u64]) {}
-
-// That the words are 44.
-pub fn known(words: &[u64; 44])
-    ensures { λ _. ⌜ length (now (words .entry)) ≡ 44 ⌝ }
-{
-    seen(words);
-}
-
 // The four words of place i.
-pub fn put(words: &mut [u64; 44], i: usize, frame: u64, first: u64, len: u64, sector: u64)
-    requires { ⌜ i < 11 ⌝ }
+pub fn put(words: &mut [u64], i: usize, frame: u64, first: u64, len: u64, sector: u64)
+    requires { ⌜ (length (now words) ≡ 44) × (i < 11) ⌝ }
     ensures { λ _. ⌜ now (words .exit) ≡ sets (now (words .entry)) (4 * i) (frame ∷ first ∷ len ∷ sector ∷ []) ⌝ }
 {
     let at = 4 * i;
@@ -29,11 +19,10 @@ pub fn put(words: &mut [u64; 44], i: usize, frame: u64, first: u64, len: u64, se
 }
 
 // Zeros in every place from `from` on.
-pub fn clear_from(words: &mut [u64; 44], from: usize)
-    requires { ⌜ from ≤ 11 ⌝ }
+pub fn clear_from(words: &mut [u64], from: usize)
+    requires { ⌜ (length (now words) ≡ 44) × (from ≤ 11) ⌝ }
     ensures { λ _. ⌜ now (words .exit) ≡ take (4 * from) (now (words .entry)) ++ extentWords (11 - from) [] ⌝ }
 {
-    known(words);
     let mut i = from;
     while i < 11 {
         put(words, i, 0, 0, 0, 0);

@@ -27,14 +27,16 @@ pub fn pair_of(abi: model::Abi, slot: &[u8; 112]) -> model::Pair
 }
 
 // The words of a turn that has no plan: all zero.
-pub fn no_extents(words: &mut [u64; 44])
+pub fn no_extents(words: &mut [u64])
+    requires { ⌜ length (now words) ≡ 44 ⌝ }
     ensures { λ _. ⌜ now (words .exit) ≡ noWords ⌝ }
 {
     extents::clear_from(words, 0);
 }
 
 // The refusal for a reason, and no extents.
-fn refuse(reason: u32, words: &mut [u64; 44]) -> model::Verdict
+fn refuse(reason: u32, words: &mut [u64]) -> model::Verdict
+    requires { ⌜ length (now words) ≡ 44 ⌝ }
     ensures { λ r. ⌜ (r ≡ refusal reason) × (now (words .exit) ≡ noWords) ⌝ }
 {
     extents::clear_from(words, 0);
@@ -45,7 +47,8 @@ fn refuse(reason: u32, words: &mut [u64; 44]) -> model::Verdict
 }
 
 // The plan of a request that moves no sectors, and no extents.
-fn start_empty(operation: u8, words: &mut [u64; 44]) -> model::Verdict
+fn start_empty(operation: u8, words: &mut [u64]) -> model::Verdict
+    requires { ⌜ length (now words) ≡ 44 ⌝ }
     ensures { λ r. ⌜ (r ≡ emptyStart operation) × (now (words .exit) ≡ noWords) ⌝ }
 {
     extents::clear_from(words, 0);
@@ -79,9 +82,9 @@ fn discard(
     params: model::Params,
     slot: &[u8; 112],
     grants: &[u8],
-    words: &mut [u64; 44],
+    words: &mut [u64],
 ) -> model::Verdict
-    requires { ⌜ (headReason params (requestIn params (now slot)) ≡ 0) × (getD (now slot) 0 0 ≡ 5) ⌝ }
+    requires { ⌜ (headReason params (requestIn params (now slot)) ≡ 0) × (getD (now slot) 0 0 ≡ 5) × (length (now words) ≡ 44) ⌝ }
     ensures { λ r. ⌜ Judged params (now (grants .entry)) (now (slot .entry)) r (now (words .exit)) ⌝ }
 {
     let abi = params.abi;
@@ -105,13 +108,8 @@ fn discard(
 }
 
 // A read, write or barrier with segments that passed the checks 21 to 25.
-fn data(
-    params: model::Params,
-    slot: &[u8; 112],
-    grants: &[u8],
-    words: &mut [u64; 44],
-) -> model::Verdict
-    requires { ⌜ (length (now grants) ≡ grantShare) × (headReason params (requestIn params (now slot)) ≡ 0) × (getD (now slot) 0 0 ≡ 5 → ⊥) × (getD (now slot) 1 0 ≡ 0 → ⊥) ⌝ }
+fn data(params: model::Params, slot: &[u8; 112], grants: &[u8], words: &mut [u64]) -> model::Verdict
+    requires { ⌜ (length (now grants) ≡ grantShare) × (headReason params (requestIn params (now slot)) ≡ 0) × (getD (now slot) 0 0 ≡ 5 → ⊥) × (getD (now slot) 1 0 ≡ 0 → ⊥) × (length (now words) ≡ 44) ⌝ }
     ensures { λ r. ⌜ Judged params (now (grants .entry)) (now (slot .entry)) r (now (words .exit)) ⌝ }
 {
     let operation = slot[0];
@@ -150,9 +148,9 @@ pub fn judge(
     params: model::Params,
     slot: &[u8; 112],
     grants: &[u8],
-    words: &mut [u64; 44],
+    words: &mut [u64],
 ) -> model::Verdict
-    requires { ⌜ length (now grants) ≡ grantShare ⌝ }
+    requires { ⌜ (length (now grants) ≡ grantShare) × (length (now words) ≡ 44) ⌝ }
     ensures { λ r. ⌜ Judged params (now (grants .entry)) (now (slot .entry)) r (now (words .exit)) ⌝ }
 {
     let head = head::head_reason(params, slot);

@@ -24,12 +24,11 @@ pub fn scan(
     grants: &[u8],
     need: u8,
     start: u64,
-    words: &mut [u64; 44],
+    words: &mut [u64],
 ) -> u64
-    requires { ⌜ (n ≤ 11) × (length (now grants) ≡ grantShare) ⌝ }
+    requires { ⌜ (n ≤ 11) × (length (now grants) ≡ grantShare) × (length (now words) ≡ 44) ⌝ }
     ensures { λ r. ⌜ Scanned need (now (grants .entry)) start (segmentsOf n (layoutOf abi) (now (slot .entry)) 0) r (now (words .exit)) ⌝ }
 {
-    crate::extents::known(words);
     let mut sector = start;
     let mut i: usize = 0;
     while i < n {

@@ -19,7 +19,7 @@ use Rattle.request.proofs.data.Tie as tie
 
 -- where the function began, and the request
 abbrev entry : tie.After-scan → tie.Start
-entry x = x .before .before .before .before .before .before .before .before .before .before
+entry x = x .before .before .before .before .before .before .before .before .before .before .before
 
 abbrev asked : tie.Start → Request
 asked o = requestIn (o .args .params) (o .args .slot .now)
@@ -66,31 +66,35 @@ need-of-requires c κs = search needs
 
 scan-requires : tie.Need-scan-requires
 unfolding requestOf
-scan-requires c κs = let o = c .before .before .before .before .before .before .before .before .before in omega (arith, few o, c .before .before .before .before .before .wide .ensures, o .pre .0)
+scan-requires c κs = let o = c .before .before .before .before .before .before .before .before .before .before in omega (arith, few o, c .before .before .before .before .before .wide .ensures, o .pre .0)
 
 cast-fault-reason : tie.Need-cast-fault-reason
 cast-fault-reason c = search needs
 
 fault-reason-requires : tie.Need-fault-reason-requires
 unfolding requestOf
-fault-reason-requires c κs = let o = c .before .before .before .before .before .before .before .before .before .before .before in omega (arith, few o, c .before .before .before .before .before .before .before .wide .ensures, o .pre .0)
+fault-reason-requires c κs = let x = c .before .before .before in let o = entry x in omega (arith, few o, x .before .before .before .before .before .before .wide .ensures, o .pre .0)
 
 refuse-requires : tie.Need-refuse-requires
 refuse-requires c κs = search needs
 
+same-length : tie.Need-same-length
+same-length c = search needs
+
 returns : tie.Need-returns
 unfolding requestOf
 returns c =
-    let x = c .before .before .before .before in
+    let done = c .before .before in
+    let x = done .before .before .before .before .before .before in
     let o = entry x in
     let a = o .args in
     let r = asked o in
-    let none = scan-none _ _ _ (r .segments) _ _ (found x) (rw (long o) (omega (arith, o .pre .3))) (c .before .before .before .if1 .taken) in
-    let why = rw (x .before .before .before .before .before .before .wide .ensures) at (c .before .before .fault-reason .ensures) in
+    let none = scan-none _ _ _ (r .segments) _ _ (found x) (rw (long o) (omega (arith, o .pre .3))) (done .before .before .before .if1 .taken) in
+    let why = rw (x .before .before .before .before .before .before .wide .ensures) at (done .before .before .fault-reason .ensures) in
     judged-refused (a .params) (a .grants .now) (a .slot .now) _ _ _
     (data-fault (a .params) (a .grants .now) r (o .pre .1) (o .pre .2) (o .pre .3) none)
-    (rw why at (c .refuse .ensures .0))
-    (c .refuse .ensures .1)
+    (rw why at (done .refuse .ensures .0))
+    (done .refuse .ensures .1)
 
 end-reason-requires : tie.Need-end-reason-requires
 end-reason-requires c κs = search needs
@@ -98,47 +102,55 @@ end-reason-requires c κs = search needs
 refuse-requires-2 : tie.Need-refuse-requires-2
 refuse-requires-2 c κs = search needs
 
+same-length-2 : tie.Need-same-length-2
+same-length-2 c = search needs
+
 returns-2 : tie.Need-returns-2
 unfolding requestOf
 returns-2 c =
-    let x = c .before .before .before .before .before in
+    let done = c .before .before in
+    let x = done .before .before .before .before .before .before .before in
     let o = entry x in
     let a = o .args in
     let r = asked o in
-    let some = scan-some _ _ _ (r .segments) _ _ (found x) (c .before .before .before .before .if1 .left) in
-    let total = scan-count _ _ _ (r .segments) _ _ (found x) (c .before .before .before .before .if1 .left) in
-    let end = c .before .before .before .end-reason .ensures ∙ ap₂ (endReason (a .params)) (begins x) total in
+    let some = scan-some _ _ _ (r .segments) _ _ (found x) (done .before .before .before .before .if1 .left) in
+    let total = scan-count _ _ _ (r .segments) _ _ (found x) (done .before .before .before .before .if1 .left) in
+    let end = done .before .before .before .end-reason .ensures ∙ ap₂ (endReason (a .params)) (begins x) total in
     judged-refused (a .params) (a .grants .now) (a .slot .now) _ _ _
-    (data-end (a .params) (a .grants .now) r (o .pre .1) (o .pre .2) (o .pre .3) some (λ z. c .before .before .if2 .taken (end ∙ z)))
-    (rw end at (c .refuse2 .ensures .0))
-    (c .refuse2 .ensures .1)
+    (data-end (a .params) (a .grants .now) r (o .pre .1) (o .pre .2) (o .pre .3) some (λ z. done .before .before .if2 .taken (end ∙ z)))
+    (rw end at (done .refuse2 .ensures .0))
+    (done .refuse2 .ensures .1)
 
 cast-clear-from : tie.Need-cast-clear-from
 cast-clear-from c = search needs
 
 clear-from-requires : tie.Need-clear-from-requires
 unfolding requestOf
-clear-from-requires c κs = let o = c .before .before .before .before .before .before .before .before .before .before .before .before .before .before in omega (arith, few o, c .before .before .before .before .before .before .before .before .before .before .wide .ensures, o .pre .0)
+clear-from-requires c κs = let x = c .before .before .before .before .before .before in let o = entry x in omega (arith, few o, x .before .before .before .before .before .before .wide .ensures, o .pre .0)
+
+same-length-3 : tie.Need-same-length-3
+same-length-3 c = search needs
 
 returns-3 : tie.Need-returns-3
 unfolding requestOf
 returns-3 c =
-    let x = c .before .before .before .before .before in
+    let done = c .before .before in
+    let x = done .before .before .before .before .before .before .before in
     let o = entry x in
     let a = o .args in
     let p = a .params in
     let g = a .grants .now in
     let r = asked o in
     let n = x .before .before .before .before .before .before .wide .ensures in
-    let some = scan-some _ _ _ (r .segments) _ _ (found x) (c .before .before .before .before .if1 .left) in
-    let total = scan-count _ _ _ (r .segments) _ _ (found x) (c .before .before .before .before .if1 .left) in
-    let end = sym (c .before .before .before .end-reason .ensures ∙ ap₂ (endReason p) (begins x) total) ∙ c .before .before .if2 .left in
+    let some = scan-some _ _ _ (r .segments) _ _ (found x) (done .before .before .before .before .if1 .left) in
+    let total = scan-count _ _ _ (r .segments) _ _ (found x) (done .before .before .before .before .if1 .left) in
+    let end = sym (done .before .before .before .end-reason .ensures ∙ ap₂ (endReason p) (begins x) total) ∙ done .before .before .if2 .left in
     -- check 28 has passed: so no disk sector wrapped
     let fits : r .start + totalSectors (r .segments) < 2 ^ 64 = omega (arith, start-within p (r .start) (totalSectors (r .segments)) end, o .good) in
     judged-start p g (a .slot .now) _ _ _
     (data-start p g r (o .pre .1) (o .pre .2) (o .pre .3) some end)
     (same-start _ false (begins x) total (n ∙ sym (long o)))
-    (rw n at (c .clear-from .ensures)
+    (rw n at (done .clear-from .ensures)
     ∙ words-all (r .start) (r .n) (r .segments) _ (long o) (few o) (rw (long o) at (found x .front some fits))
     ∙ ap (extentWords 11) (sym (data-extents p g r (o .pre .1) (o .pre .2) (o .pre .3))))
 
@@ -157,10 +169,13 @@ data-spec =
     cast-fault-reason
     fault-reason-requires
     refuse-requires
+    same-length
     returns
     end-reason-requires
     refuse-requires-2
+    same-length-2
     returns-2
     cast-clear-from
     clear-from-requires
+    same-length-3
     returns-3)

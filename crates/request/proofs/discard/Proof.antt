@@ -11,7 +11,7 @@ use Rattle.request.proofs.discard.Tie as tie
 
 -- where the function began, and the request
 abbrev entry : tie.After-end-reason → tie.Start
-entry e = e .before .before .before .before .before .before .before .before
+entry e = e .before .before .before .before .before .before .before .before .before
 
 abbrev asked : tie.Start → Request
 asked o = requestIn (o .args .params) (o .args .slot .now)
@@ -43,17 +43,21 @@ end-reason-requires c κs = search needs
 refuse-requires : tie.Need-refuse-requires
 refuse-requires c κs = search needs
 
+same-length : tie.Need-same-length
+same-length c = search needs
+
 returns : tie.Need-returns
 unfolding requestOf
 returns c =
-    let e = c .before .before .before in
+    let done = c .before .before in
+    let e = done .before .before .before in
     let o = entry e in
     let a = o .args in
     let end = e .end-reason .ensures ∙ ap₂ (endReason (a .params)) (begins e) (counts e) in
     judged-refused (a .params) (a .grants .now) (a .slot .now) _ _ _
-    (discard-end (a .params) (a .grants .now) (asked o) (o .pre .0) (o .pre .1) (λ z. c .before .before .if1 .taken (end ∙ z)))
-    (rw end at (c .refuse .ensures .0))
-    (c .refuse .ensures .1)
+    (discard-end (a .params) (a .grants .now) (asked o) (o .pre .0) (o .pre .1) (λ z. done .before .before .if1 .taken (end ∙ z)))
+    (rw end at (done .refuse .ensures .0))
+    (done .refuse .ensures .1)
 
 clear-from-requires : tie.Need-clear-from-requires
 clear-from-requires c κs = search needs
@@ -61,17 +65,21 @@ clear-from-requires c κs = search needs
 element-copy-out-flag : tie.Need-element-copy-out-flag
 element-copy-out-flag c = search needs
 
+same-length-2 : tie.Need-same-length-2
+same-length-2 c = search needs
+
 returns-2 : tie.Need-returns-2
 unfolding requestOf extentWords
 returns-2 c =
-    let e = c .before .before .before .before in
+    let cleared = c .before .before .before in
+    let e = cleared .before .before .before in
     let o = entry e in
     let a = o .args in
-    let end = sym (e .end-reason .ensures ∙ ap₂ (endReason (a .params)) (begins e) (counts e)) ∙ c .before .before .before .if1 .left in
+    let end = sym (e .end-reason .ensures ∙ ap₂ (endReason (a .params)) (begins e) (counts e)) ∙ cleared .before .before .if1 .left in
     judged-start (a .params) (a .grants .now) (a .slot .now) _ _ _
     (discard-start (a .params) (a .grants .now) (asked o) (o .pre .0) (o .pre .1) end)
     (same-start 5 _ (begins e) (counts e) refl)
-    (c .before .clear-from .ensures ∙ ap (extentWords 11) (sym (discard-extents (a .params) (a .grants .now) (asked o) (o .pre .0) (o .pre .1))))
+    (cleared .clear-from .ensures ∙ ap (extentWords 11) (sym (discard-extents (a .params) (a .grants .now) (asked o) (o .pre .0) (o .pre .1))))
 
 pub discard-spec : {M : Type 1} → statement M
 discard-spec =
@@ -83,7 +91,9 @@ discard-spec =
     u64-at-requires-2
     end-reason-requires
     refuse-requires
+    same-length
     returns
     clear-from-requires
     element-copy-out-flag
+    same-length-2
     returns-2)

@@ -30,11 +30,11 @@ take-requires c κs =
     let seen = c .before .before .before .before .before in
     let far = seen .before .before in
     let at = far .before .before in
-    let start = at .before .before .before .before in
+    let start = at .before .before .before .before .before in
     let a = start .args in
     let w = start .pre .0 in
     let o : Reads (a .memory .now) (a .k) (at .port-at .result) = record { port = w .port; read = at .port-at .ensures } in
-    (record { reads = o; room = waits-room _ _ _ (sym (c .before .before .before .enum-told2 .given .1) ∙ (rw (far .distance .ensures, seen .before .in-flight .ensures) at (seen .pending .ensures))) }, start .pre .1)
+    (record { reads = o; room = waits-room _ _ _ (sym (c .before .before .before .enum-told2 .given .1) ∙ (rw (far .distance .ensures, seen .before .in-flight .ensures) at (seen .pending .ensures))) }, start .pre .1, start .pre .2)
 
 enum-told-3 : tie.Need-enum-told-3
 enum-told-3 c = search needs
@@ -50,7 +50,7 @@ returns c =
     let seen = c .before .before in
     let far = seen .before .before in
     let at = far .before .before in
-    let start = at .before .before .before .before in
+    let start = at .before .before .before .before .before in
     let a = start .args in
     let w = start .pre .0 in
     let o : Reads (a .memory .now) (a .k) (at .port-at .result) = record { port = w .port; read = at .port-at .ensures } in
@@ -59,28 +59,34 @@ returns c =
 same-length : tie.Need-same-length
 same-length c = search needs
 
+same-length-2 : tie.Need-same-length-2
+same-length-2 c = search needs
+
 returns-2 : tie.Need-returns-2
 returns-2 c =
-    let done = c .before .before in
+    let done = c .before .before .before .before in
     let told = done .before .before .before .before in
     let seen = told .before .before in
     let far = seen .before .before in
     let at = far .before .before in
-    let start = at .before .before .before .before in
+    let start = at .before .before .before .before .before in
     let a = start .args in
     let w = start .pre .0 in
     let o : Reads (a .memory .now) (a .k) (at .port-at .result) = record { port = w .port; read = at .port-at .ensures } in
     let t = done .take .ensures in
     record { effect = t .effect ∙ waits-served (a .memory .now) (a .rings .now) (a .grants .now) (a .k) (a .published) (at .port-at .result) o (w .read) (sym (told .enum-told2 .given .1) ∙ (rw (far .distance .ensures, seen .before .in-flight .ensures) at (seen .pending .ensures)) ∙ pending-seen (a .memory .now) (a .rings .now) (a .grants .now) (a .k) (a .published) (at .port-at .result) o (w .read)); backend = t .backend }
 
+same-length-3 : tie.Need-same-length-3
+same-length-3 c = search needs
+
 returns-3 : tie.Need-returns-3
 returns-3 c =
-    let cleared = c .before .before in
+    let cleared = c .before .before .before .before in
     let told = cleared .before .before in
     let seen = told .before .before in
     let far = seen .before .before in
     let at = far .before .before in
-    let start = at .before .before .before .before in
+    let start = at .before .before .before .before .before in
     let a = start .args in
     let w = start .pre .0 in
     let o : Reads (a .memory .now) (a .k) (at .port-at .result) = record { port = w .port; read = at .port-at .ensures } in
@@ -102,5 +108,7 @@ serve-spec =
     overrun-requires
     returns
     same-length
+    same-length-2
     returns-2
+    same-length-3
     returns-3)

@@ -20,14 +20,14 @@ slot-at-requires c κs = search needs
 
 add-at : tie.Need-add-at
 add-at c =
-    let start = c .before .before .before .before in
+    let start = c .before .before .before .before .before in
     let a = start .args in
     let h = start .pre .0 .reads .port in
     record { fits = omega (arith, h, c .slot-at .ensures, slot-within (a .p .params) (a .p .consumed)) }
 
 copy-slot-requires : tie.Need-copy-slot-requires
 copy-slot-requires c κs =
-    let start = c .before .before .before .before .before in
+    let start = c .before .before .before .before .before .before in
     let a = start .args in
     let h = start .pre .0 .reads .port in
     omega (arith, h, start .pre .1 .pages, c .before .slot-at .ensures, slot-within (a .p .params) (a .p .consumed))
@@ -64,12 +64,15 @@ enum-known-verdict-2 c = search needs
 
 start-requires : tie.Need-start-requires
 start-requires c κs =
-    let judged = c .before .before .before .before .before .before in
-    let start = judged .before .before .before .before .before .before .before .before .before .before in
+    let judged = c .before .before .before .before .before .before .before .before in
+    let start = judged .before .before .before .before .before .before .before .before .before .before .before in
     (start .pre .0, expected-fits _ _ _ _ (sym (judged .judge .ensures .verdict) ∙ c .before .before .verdict2 .given .1))
 
 same-length : tie.Need-same-length
 same-length c = search needs
+
+same-length-2 : tie.Need-same-length-2
+same-length-2 c = search needs
 
 returns : tie.Need-returns
 unfolding grantsOf part
@@ -77,10 +80,10 @@ returns c =
     let done = c .before .before in
     let told = done .before .before .before .before in
     let paired = told .before .before in
-    let judged = paired .before .before in
+    let judged = paired .before .before .before .before in
     let copied = judged .before .before .before .before in
     let placed = copied .before .before in
-    let start = placed .before .before .before .before in
+    let start = placed .before .before .before .before .before in
     let a = start .args in
     let said = judged .judge .ensures in
     took-declined (a .memory .now) (a .rings .now) (a .grants .now) (a .k) (a .p) (start .pre .0 .reads) (copied .copy-slot .result)
@@ -90,18 +93,21 @@ returns c =
     _ _ (said .beside ∙ ap (wordsBeside (requestIn (a .p .params) (copied .copy-slot .result))) (sym (said .verdict)))
     _ _ _ _ (told .verdict .given .1) (done .decline .ensures)
 
-same-length-2 : tie.Need-same-length-2
-same-length-2 c = search needs
+same-length-3 : tie.Need-same-length-3
+same-length-3 c = search needs
+
+same-length-4 : tie.Need-same-length-4
+same-length-4 c = search needs
 
 returns-2 : tie.Need-returns-2
 unfolding grantsOf part
 returns-2 c =
     let told = c .before .before .before in
     let paired = told .before .before in
-    let judged = paired .before .before in
+    let judged = paired .before .before .before .before in
     let copied = judged .before .before .before .before in
     let placed = copied .before .before in
-    let start = placed .before .before .before .before in
+    let start = placed .before .before .before .before .before in
     let a = start .args in
     let said = judged .judge .ensures in
     took-started (a .memory .now) (a .rings .now) (a .grants .now) (a .k) (a .p) (start .pre .0 .reads) (copied .copy-slot .result)
@@ -131,6 +137,8 @@ take-spec =
     enum-known-verdict-2
     start-requires
     same-length
-    returns
     same-length-2
+    returns
+    same-length-3
+    same-length-4
     returns-2)

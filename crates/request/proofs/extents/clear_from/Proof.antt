@@ -18,13 +18,10 @@ Inv-loop words₀ from i₀ words i =
 abbrev μ-loop : tie.MeasureT-loop
 μ-loop words₀ from i₀ words i = 11 - i
 
-known-requires : tie.Need-known-requires Inv-loop μ-loop
-known-requires c κs = search needs
-
 loop-holds : tie.Need-loop-holds Inv-loop μ-loop
 unfolding extentWords
 loop-holds c =
-    let a = c .before .before .args in
+    let a = c .before .args in
     let none : a .from - a .from ≡ 0 = omega arith in
     (omega arith, omega arith, omega arith, rw none (sym (append-nil _)))
 
@@ -39,13 +36,16 @@ loop-less c = search needs
 
 loop-again : tie.Need-loop-again Inv-loop μ-loop
 loop-again c =
-    let a = c .before .before .before .before .before .before .args in
-    let l = c .before .before .before .loop in (
+    let a = c .before .before .before .before .before .before .before .args in
+    let l = c .before .before .before .before .before .loop in (
       omega arith,
       omega arith,
-      ap length (c .put .ensures) ∙ length-sets (l .words) (4 * l .i) (0 ∷ 0 ∷ 0 ∷ 0 ∷ []) ∙ l .inv .2,
-      rw (c .put .ensures) (clear-more (a .words .now) (l .words) (a .from) (l .i) (omega arith) (omega arith) (l .inv .3)),
+      ap length (c .before .before .put .ensures) ∙ length-sets (l .words) (4 * l .i) (0 ∷ 0 ∷ 0 ∷ 0 ∷ []) ∙ l .inv .2,
+      rw (c .before .before .put .ensures) (clear-more (a .words .now) (l .words) (a .from) (l .i) (omega arith) (omega arith) (l .inv .3)),
     )
+
+same-length : tie.Need-same-length Inv-loop μ-loop
+same-length c = search needs
 
 returns : tie.Need-returns Inv-loop μ-loop
 returns c =
@@ -59,10 +59,10 @@ clear-from-spec =
     (tie.spec
     Inv-loop
     μ-loop
-    known-requires
     loop-holds
     put-requires
     add-i
     loop-less
     loop-again
+    same-length
     returns)

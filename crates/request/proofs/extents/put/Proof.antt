@@ -1,6 +1,8 @@
 -- `request::extents::put` meets its contract: four stores in a row. Assumes nothing.
 use borrow.Author.Needs.{needs}
 use native.Mathlib.Numerals.{towards-suc}
+use native.Mathlib.Omega.{arith}
+use lib.ListN.{length-set}
 use Rattle.request.proofs.extents.put.Statement.{statement}
 use Rattle.request.proofs.extents.put.Tie as tie
 
@@ -10,8 +12,8 @@ mul-at c = search needs
 mul-words : tie.Need-mul-words
 mul-words c = search needs
 
-element-write-words : tie.Need-element-write-words
-element-write-words c = search needs
+slice-write-words : tie.Need-slice-write-words
+slice-write-words c = search needs
 
 add-words : tie.Need-add-words
 add-words c = search needs
@@ -19,8 +21,8 @@ add-words c = search needs
 mul-words-2 : tie.Need-mul-words-2
 mul-words-2 c = search needs
 
-element-write-words-2 : tie.Need-element-write-words-2
-element-write-words-2 c = search needs
+slice-write-words-2 : tie.Need-slice-write-words-2
+slice-write-words-2 c = simp length-set (omega arith)
 
 add-words-2 : tie.Need-add-words-2
 add-words-2 c = search needs
@@ -28,8 +30,8 @@ add-words-2 c = search needs
 mul-words-3 : tie.Need-mul-words-3
 mul-words-3 c = search needs
 
-element-write-words-3 : tie.Need-element-write-words-3
-element-write-words-3 c = search needs
+slice-write-words-3 : tie.Need-slice-write-words-3
+slice-write-words-3 c = simp length-set (omega arith)
 
 add-words-3 : tie.Need-add-words-3
 add-words-3 c = search needs
@@ -37,8 +39,11 @@ add-words-3 c = search needs
 mul-words-4 : tie.Need-mul-words-4
 mul-words-4 c = search needs
 
-element-write-words-4 : tie.Need-element-write-words-4
-element-write-words-4 c = search needs
+slice-write-words-4 : tie.Need-slice-write-words-4
+slice-write-words-4 c = simp length-set (omega arith)
+
+same-length : tie.Need-same-length
+same-length c = search needs
 
 returns : tie.Need-returns
 returns c = simp towards-suc
@@ -49,14 +54,15 @@ put-spec =
     (tie.spec
     mul-at
     mul-words
-    element-write-words
+    slice-write-words
     add-words
     mul-words-2
-    element-write-words-2
+    slice-write-words-2
     add-words-2
     mul-words-3
-    element-write-words-3
+    slice-write-words-3
     add-words-3
     mul-words-4
-    element-write-words-4
+    slice-write-words-4
+    same-length
     returns)

@@ -23,13 +23,10 @@ Inv-loop abi slot n grants need start words₀ sector₀ i₀ words sector i =
 abbrev μ-loop : tie.MeasureT-loop
 μ-loop abi slot n grants need start words₀ sector₀ i₀ words sector i = n - i
 
-known-requires : tie.Need-known-requires Inv-loop μ-loop
-known-requires c κs = search needs
-
 loop-holds : tie.Need-loop-holds Inv-loop μ-loop
 unfolding segmentsOf
 loop-holds c =
-    let a = c .before .before .before .args in
+    let a = c .before .before .args in
     (omega arith, upto-none (a .need) (a .grants .now) (a .start) (a .words .now) (omega arith) (omega arith))
 
 segment-at-requires : tie.Need-segment-at-requires Inv-loop μ-loop
@@ -52,7 +49,7 @@ element-copy-out-last c = search needs
 
 -- where the function began, and segment i
 abbrev entry : tie.After-segment-at Inv-loop μ-loop → tie.Start Inv-loop μ-loop
-entry g = g .before .before .before .before .before .before
+entry g = g .before .before .before .before .before
 
 abbrev segment : tie.After-segment-at Inv-loop μ-loop → Segment
 segment g = segmentOf (layoutOf (entry g .args .abi)) (entry g .args .slot .now) (g .before .before .loop .i)
@@ -64,11 +61,17 @@ fails g words =
     fails-at (entry g .args .need) (entry g .args .grants .now) (entry g .args .start) (layoutOf (entry g .args .abi)) (entry g .args .slot .now)
     (entry g .args .n) (g .before .before .loop .i) words (g .before .loop-test .taken)
 
+same-length : tie.Need-same-length Inv-loop μ-loop
+same-length c = search needs
+
 returns : tie.Need-returns Inv-loop μ-loop
 unfolding segmentOf
 returns c =
     let g = c .before .before .before .before .before in
     fails g _ (fails-within _ _ (segment g) (within-order (segment g) (rw (g .segment-at .ensures .0) at (c .if1 .taken))))
+
+same-length-2 : tie.Need-same-length-2 Inv-loop μ-loop
+same-length-2 c = search needs
 
 returns-2 : tie.Need-returns-2 Inv-loop μ-loop
 unfolding segmentOf
@@ -76,6 +79,9 @@ returns-2 c =
     let g = c .before .before .before .before .before .before in
     let at-i = g .segment-at .ensures .0 in
     fails g _ (fails-within _ _ (segment g) (within-end (segment g) (rw at-i at (c .before .if1 .left)) (rw at-i at (c .if2 .taken))))
+
+same-length-3 : tie.Need-same-length-3 Inv-loop μ-loop
+same-length-3 c = search needs
 
 returns-3 : tie.Need-returns-3 Inv-loop μ-loop
 unfolding segmentOf
@@ -90,6 +96,9 @@ cast-grant c = search needs
 
 shared-slice-read-grant : tie.Need-shared-slice-read-grant Inv-loop μ-loop
 shared-slice-read-grant c = search needs
+
+same-length-4 : tie.Need-same-length-4 Inv-loop μ-loop
+same-length-4 c = search needs
 
 returns-4 : tie.Need-returns-4 Inv-loop μ-loop
 unfolding segmentOf
@@ -126,7 +135,8 @@ loop-less c = search needs
 loop-again : tie.Need-loop-again Inv-loop μ-loop
 unfolding segmentOf sectorsIn
 loop-again c =
-    let j = c .before .before .before .before .before in
+    let put = c .before .before .before in
+    let j = put .before .before .before .before in
     let e3 = j .before .before in
     let e1 = e3 .before .before in
     let u = e1 .before .before .before in
@@ -140,14 +150,14 @@ loop-again c =
     let low : s .first ≤ s .last = rw at-i at (e1 .if1 .left) in
     let high : s .last ≤ 7 = rw at-i at (e3 .before .if2 .left) in
     let near : s .frame < 1024 = rw frame at (e3 .if3 .left) in
-    let first : c .before .before .wide2 .result ≡ s .first = rw at-i at (c .before .before .wide2 .ensures) in
-    let sum = rw at-i at (c .before .before .before .before .wide .ensures) in
-    let len : c .before .before .before .before .wide .result ≡ sectorsIn s = omega arith in
+    let first : put .before .wide2 .result ≡ s .first = rw at-i at (put .before .wide2 .ensures) in
+    let sum = rw at-i at (put .before .before .before .wide .ensures) in
+    let len : put .before .before .before .wide .result ≡ sectorsIn s = omega arith in
     let right : (getD (a .grants .now) (s .frame) 0 ≡ 2) ⊎ (getD (a .grants .now) (s .frame) 0 ≡ a .need) =
     ⊎-elim (λ w. inr (rw frame at (w .1 .left))) (λ w. inl (rw frame at (w .left))) (j .if4 .came)
     in (
       omega arith,
-      rw (c .wrapping-add-u64 .ensures, c .before .put .ensures)
+      rw (c .wrapping-add-u64 .ensures, put .put .ensures)
           (upto-next (a .need) (a .grants .now) (a .start) (layoutOf (a .abi)) (a .slot .now) (l .i) (l .words) (l .sector) (l .inv .1) (omega (arith, g .before .loop-test .taken, o .pre .0))
           (passes-yes (a .need) (a .grants .now) s (within-yes s low high) near right) _ _ _ frame first len),
     )
@@ -155,9 +165,12 @@ loop-again c =
 wrapping-sub-u64-requires : tie.Need-wrapping-sub-u64-requires Inv-loop μ-loop
 wrapping-sub-u64-requires c κs = search needs
 
+same-length-5 : tie.Need-same-length-5 Inv-loop μ-loop
+same-length-5 c = search needs
+
 returns-5 : tie.Need-returns-5 Inv-loop μ-loop
 returns-5 c =
-    let a = c .before .before .before .before .before .before .args in
+    let a = c .before .before .before .before .before .args in
     let l = c .before .before .loop in
     let e : l .i ≡ a .n = omega arith in
     upto-all (a .need) (a .grants .now) (a .start) (segmentsOf (a .n) (layoutOf (a .abi)) (a .slot .now) 0) (l .words) (l .sector) (c .wrapping-sub-u64 .result)
@@ -169,7 +182,6 @@ scan-spec =
     (tie.spec
     Inv-loop
     μ-loop
-    known-requires
     loop-holds
     segment-at-requires
     u32-at-requires
@@ -177,11 +189,15 @@ scan-spec =
     element-copy-out-first
     add-last
     element-copy-out-last
+    same-length
     returns
+    same-length-2
     returns-2
+    same-length-3
     returns-3
     cast-grant
     shared-slice-read-grant
+    same-length-4
     returns-4
     add-wide
     wide-requires
@@ -193,4 +209,5 @@ scan-spec =
     loop-less
     loop-again
     wrapping-sub-u64-requires
+    same-length-5
     returns-5)
