@@ -1,0 +1,38 @@
+-- The words of a turn's answer: what is written around the extents, and what is lent in the middle. Assumes nothing.
+use mathlib.Core.Path.{_≡_, sym, ap, _∙_}
+use mathlib.Core.List.{List, [], _∷_, _++_, append-nil}
+use Prim.Native.Nat.{ℕ, _+_}
+use native.Mathlib.Nat.{zero-add}
+use native.Mathlib.Omega.{arith}
+use lib.ListN.{length, take, drop, replicate, length-append, length-drop, take-append-drop, drop-of-length-le}
+use lib.Seq.{sets, sets-eq, take-append-add, take-at, drop-at, drop-drop, length-take-le}
+use Rattle.kernelharp.specs.Promise.{extentsIn}
+
+-- sixteen words put in front, and zeros at the end
+pub values-put : (xs vs : List ℕ) → length xs ≡ 64 → length vs ≡ 16
+    → sets (sets xs 0 vs) 60 (replicate 4 0) ≡ vs ++ extentsIn xs ++ replicate 4 0
+values-put xs vs h l =
+    let rest = drop 16 xs in
+    let front : sets xs 0 vs ≡ vs ++ rest = sets-eq vs xs 0 (omega arith) ∙ rw (zero-add, l) in
+    let long : length (vs ++ rest) ≡ 64 = simp (length-append, length-drop) (omega arith) in
+    let kept : take 60 (vs ++ rest) ≡ vs ++ take 44 rest = rw l at (take-append-add vs rest 44) in
+    let none : drop 64 (vs ++ rest) ≡ [] = drop-of-length-le (vs ++ rest) {i = 64} (omega arith) in
+    rw front (sets-eq (replicate 4 0) (vs ++ rest) 60 (omega arith) ∙ rw (kept, none) (append-nil _))
+
+-- as many words as there are
+pub all-put : (xs vs : List ℕ) → length xs ≡ length vs → sets xs 0 vs ≡ vs
+all-put xs vs h =
+    let none : drop (length vs) xs ≡ [] = drop-of-length-le xs {i = length vs} (omega arith) in
+    sets-eq vs xs 0 (omega arith) ∙ rw (zero-add, none) (append-nil vs)
+
+-- the middle that came back
+module _ (xs ys : List ℕ) (h : length xs ≡ 64) (l : length ys ≡ 44) where
+  pub middle : extentsIn (take 16 xs ++ (ys ++ drop 44 (drop 16 xs))) ≡ ys
+  middle = rw (drop-at (take 16 xs) (ys ++ drop 44 (drop 16 xs)) 16 (length-take-le 16 xs (omega arith))) (take-at ys (drop 44 (drop 16 xs)) 44 l)
+
+  pub around-middle : take 16 xs ++ (ys ++ drop 44 (drop 16 xs)) ≡ take 16 xs ++ (extentsIn (take 16 xs ++ (ys ++ drop 44 (drop 16 xs))) ++ drop 60 xs)
+  around-middle = ap (λ (z : List ℕ). take 16 xs ++ (z ++ drop 44 (drop 16 xs))) (sym middle) ∙ ap (λ (z : List ℕ). take 16 xs ++ (extentsIn (take 16 xs ++ (ys ++ drop 44 (drop 16 xs))) ++ z)) (drop-drop 44 16 xs)
+
+-- a middle that did not change
+pub unchanged : (xs : List ℕ) → take 16 xs ++ (extentsIn xs ++ drop 60 xs) ≡ xs
+unchanged xs = ap (λ (z : List ℕ). take 16 xs ++ (extentsIn xs ++ z)) (sym (drop-drop 44 16 xs)) ∙ ap (λ (z : List ℕ). take 16 xs ++ z) (take-append-drop 44 (drop 16 xs)) ∙ take-append-drop 16 xs
