@@ -12,7 +12,8 @@ use Rattle.model.specs.Rules.{effectDue}
 use Rattle.model.specs.declared.Completed.{Completed}
 use Rattle.model.specs.declared.Turned.{Turned}
 use Rattle.backend.specs.Promise.{refusal, Promised}
-use Rattle.kernelharp.specs.Promise.{dueOn, Returned, extentsIn, turnAnswer, turnCall, TurnReturned, Within, completeCall, CompleteReturned}
+use Rattle.kernelharp.specs.Promise.{Returned, extentsIn, turnAnswer, turnCall, TurnReturned, completeCall, CompleteReturned}
+use Rattle.kernelharp.specs.Steps.{turnedInto, Within, completedInto}
 use Rattle.kernelharp.proofs.Refusals.{Keeps, turn-keeps, NumberedIn, complete-numbered}
 use Rattle.kernelharp.proofs.Words.{middle, around-middle, unchanged}
 
@@ -37,51 +38,64 @@ module _ (m rings grants answer pages left : List ℕ) where
     around = around-middle answer ys h l;
   }
 
-  pub turn-refused : (n : ℕ) (r : Turned) (words : List ℕ) → Within m rings grants answer r pages words left → r ≡ Turned.Refused n
-      → TurnReturned m rings grants answer n pages words left
-  unfolding effectDue
-  turn-refused n r words w g =
-      let p = w .promised in
-      let k : Keeps (extentsIn answer) (record { rings = pages; words = extentsIn words; answer = r }) =
-      subst (Keeps (extentsIn answer)) (sym (p .effect)) (turn-keeps _ rings grants (extentsIn answer))
-      in
-      let kept = rw g at k in
-      record {
-        returned = returned m (turnCall rings grants answer) _ left n p (sym (ap turnedNumber g));
-        ringsDue = ap (λ (e : TurnEffect). e .rings) (p .effect);
-        answerDue = rw (kept .1) (w .around ∙ rw (kept .0) (unchanged answer));
-      }
-
-  pub turn-done : (r : Turned) (words written : List ℕ) → Within m rings grants answer r pages words left → turnedNumber r ≡ 0
-      → written ≡ turnAnswer (turnedWords r) (extentsIn words)
-      → TurnReturned m rings grants answer 0 pages written left
-  turn-done r words written w z h =
+  -- a turn that was done
+  done : (r : Turned) (words : List ℕ) → Within m rings grants answer r pages words left → turnedNumber r ≡ 0
+      → TurnReturned m rings grants answer 0 pages (turnAnswer (turnedWords r) (extentsIn words)) left
+  done r words w z =
       let p = w .promised in
       record {
         returned = returned m (turnCall rings grants answer) _ left 0 p (sym z);
         ringsDue = ap (λ (e : TurnEffect). e .rings) (p .effect);
-        answerDue = h ∙ ap (λ (e : TurnEffect). turnAnswer (turnedWords (e .answer)) (e .words)) (p .effect);
+        answerDue = ap (λ (e : TurnEffect). turnAnswer (turnedWords (e .answer)) (e .words)) (p .effect);
       }
+
+  -- any turn, by its answer
+  turn-by : (r : Turned) (words : List ℕ) → Within m rings grants answer r pages words left
+      → TurnReturned m rings grants answer (turnedNumber r) pages (turnedInto r words) left
+  unfolding effectDue
+  turn-by (Turned.Refused n) words w =
+      let p = w .promised in
+      let k : Keeps (extentsIn answer) (record { rings = pages; words = extentsIn words; answer = Turned.Refused n }) =
+      subst (Keeps (extentsIn answer)) (sym (p .effect)) (turn-keeps _ rings grants (extentsIn answer))
+      in
+      record {
+        returned = returned m (turnCall rings grants answer) _ left n p refl;
+        ringsDue = ap (λ (e : TurnEffect). e .rings) (p .effect);
+        answerDue = rw (k .1) (w .around ∙ rw (k .0) (unchanged answer));
+      }
+  turn-by Turned.Idle words w = done Turned.Idle words w refl
+  turn-by (Turned.Overrun p) words w = done (Turned.Overrun p) words w refl
+  turn-by (Turned.Started p t s plan) words w = done (Turned.Started p t s plan) words w refl
+  turn-by (Turned.Answered p n z y) words w = done (Turned.Answered p n z y) words w refl
+
+  pub turn-returned : (r : Turned) (words : List ℕ) (n : ℕ) (written : List ℕ) → Within m rings grants answer r pages words left
+      → (n ≡ turnedNumber r) × (written ≡ turnedInto r words) → TurnReturned m rings grants answer n pages written left
+  turn-returned r words n written w h = rw (h .0, h .1) (turn-by r words w)
 
 -- ---- kh_complete
 
-module _ (m rings : List ℕ) (port tag serial : ℕ) (result : ℤ) (answer pages left : List ℕ) (r : Completed)
-    (p : Promised m (completeCall rings port tag serial result) (record { rings = pages; answer = r }) left) where
-  pub complete-refused : (n : ℕ) → r ≡ Completed.Refused n → CompleteReturned m rings port tag serial result answer n pages answer left
+module _ (m rings : List ℕ) (port tag serial : ℕ) (result : ℤ) (answer pages left : List ℕ) where
+  -- a completion, by its answer
+  complete-by : (r : Completed) → Promised m (completeCall rings port tag serial result) (record { rings = pages; answer = r }) left
+      → CompleteReturned m rings port tag serial result answer (completedNumber r) pages (completedInto r answer) left
   unfolding effectDue
-  complete-refused n g =
-      let k : NumberedIn (record { rings = pages; answer = r }) = subst NumberedIn (sym (p .effect)) (complete-numbered _ rings _ _ _ result) in
-      let some = rw g at k in
+  complete-by (Completed.Refused n) p =
+      let some : NumberedIn (record { rings = pages; answer = Completed.Refused n }) =
+      subst NumberedIn (sym (p .effect)) (complete-numbered _ rings _ _ _ result)
+      in
       record {
-        returned = returned m (completeCall rings port tag serial result) _ left n p (sym (ap completedNumber g));
+        returned = returned m (completeCall rings port tag serial result) _ left n p refl;
         ringsDue = ap (λ (e : CompleteEffect). e .rings) (p .effect);
         answerDue = rw (ne-eqb n 0 some);
       }
-
-  pub complete-done : (written : List ℕ) → completedNumber r ≡ 0 → written ≡ completedWords r ++ 0 ∷ []
-      → CompleteReturned m rings port tag serial result answer 0 pages written left
-  complete-done written z h = record {
-    returned = returned m (completeCall rings port tag serial result) _ left 0 p (sym z);
+  complete-by (Completed.Done q z y) p = record {
+    returned = returned m (completeCall rings port tag serial result) _ left 0 p refl;
     ringsDue = ap (λ (e : CompleteEffect). e .rings) (p .effect);
-    answerDue = h ∙ ap (λ (e : CompleteEffect). completedWords (e .answer) ++ 0 ∷ []) (p .effect);
+    answerDue = ap (λ (e : CompleteEffect). completedWords (e .answer) ++ 0 ∷ []) (p .effect);
   }
+
+  pub complete-returned : (r : Completed) (n : ℕ) (written : List ℕ)
+      → Promised m (completeCall rings port tag serial result) (record { rings = pages; answer = r }) left
+      → (n ≡ completedNumber r) × (written ≡ completedInto r answer)
+      → CompleteReturned m rings port tag serial result answer n pages written left
+  complete-returned r n written p h = rw (h .0, h .1) (complete-by r p)

@@ -8,6 +8,12 @@ use lib.ListN.{length, take, drop, replicate, length-append, length-drop, take-a
 use lib.Seq.{sets, sets-eq, take-append-add, take-at, drop-at, drop-drop, length-take-le}
 use Rattle.kernelharp.specs.Promise.{extentsIn}
 
+-- zeros put at the end of 64 words
+ends : (ys kept : List ℕ) → length ys ≡ 64 → take 60 ys ≡ kept → sets ys 60 (replicate 4 0) ≡ kept ++ replicate 4 0
+ends ys kept h e =
+    let none : drop 64 ys ≡ [] = drop-of-length-le ys {i = 64} (omega arith) in
+    sets-eq (replicate 4 0) ys 60 (omega arith) ∙ rw (e, none) (append-nil (kept ++ replicate 4 0))
+
 -- sixteen words put in front, and zeros at the end
 pub values-put : (xs vs : List ℕ) → length xs ≡ 64 → length vs ≡ 16
     → sets (sets xs 0 vs) 60 (replicate 4 0) ≡ vs ++ extentsIn xs ++ replicate 4 0
@@ -16,8 +22,7 @@ values-put xs vs h l =
     let front : sets xs 0 vs ≡ vs ++ rest = sets-eq vs xs 0 (omega arith) ∙ rw (zero-add, l) in
     let long : length (vs ++ rest) ≡ 64 = simp (length-append, length-drop) (omega arith) in
     let kept : take 60 (vs ++ rest) ≡ vs ++ take 44 rest = rw l at (take-append-add vs rest 44) in
-    let none : drop 64 (vs ++ rest) ≡ [] = drop-of-length-le (vs ++ rest) {i = 64} (omega arith) in
-    rw front (sets-eq (replicate 4 0) (vs ++ rest) 60 (omega arith) ∙ rw (kept, none) (append-nil _))
+    ap (λ (z : List ℕ). sets z 60 (replicate 4 0)) front ∙ ends (vs ++ rest) (vs ++ take 44 rest) long kept
 
 -- as many words as there are
 pub all-put : (xs vs : List ℕ) → length xs ≡ length vs → sets xs 0 vs ≡ vs

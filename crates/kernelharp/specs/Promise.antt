@@ -13,8 +13,7 @@ use Rattle.model.specs.Calls.{Call, Turn, Complete, Effect}
 use Rattle.model.specs.Rules.{effectDue}
 use Rattle.model.specs.Turn.{portId, tagId, serialOf}
 use Rattle.memory.specs.Abstract.{backendOf}
-use Rattle.backend.specs.Promise.{refusal, Promised}
-use Rattle.model.specs.declared.Turned.{Turned}
+use Rattle.backend.specs.Promise.{refusal}
 
 -- the effect that the rules make due
 abbrev pub dueOn : List ℕ → (c : Call) → Effect c
@@ -51,11 +50,6 @@ pub record TurnReturned (memory rings grants answer : List ℕ) (n : ℕ) (pages
       words
       ≡ answered n answer
       (turnAnswer (turnedWords (dueOn memory (turnCall rings grants answer) .answer)) (dueOn memory (turnCall rings grants answer) .words))
-
--- the turn itself: its words are lent in their place, and nothing around them changes
-pub record Within (memory rings grants answer : List ℕ) (r : Turned) (pages words left : List ℕ) : Type 0 where
-  pub promised : Promised memory (turnCall rings grants answer) (record { rings = pages; words = extentsIn words; answer = r }) left
-  pub around : words ≡ take 16 answer ++ (extentsIn words ++ drop 60 answer)
 
 -- ---- kh_complete
 

@@ -13,12 +13,13 @@ ghost use mathlib.Core.Path.{_≡_};
 ghost use mathlib.Core.List.{[], _∷_, _++_};
 ghost use lib.ListN.{length};
 ghost use Rattle.memory.specs.Layout.{memoryWords};
-ghost use Rattle.model.specs.Answers.{replyNumber, magnitude as magnitudeOf, yesNo, turnedWords, completedWords};
+ghost use Rattle.model.specs.Answers.{replyNumber, magnitude as magnitudeOf, yesNo, turnedNumber, turnedWords, completedNumber, completedWords};
 ghost use Rattle.model.specs.Calls.{Open, Close};
 ghost use Rattle.model.specs.Turn.{portId};
 ghost use Rattle.model.specs.declared.Completed.{Completed as Done};
 ghost use Rattle.model.specs.declared.Turned.{Turned as Answer};
-ghost use Rattle.kernelharp.specs.Promise.{Returned, extentsIn, turnAnswer, Within, TurnReturned, CompleteReturned};
+ghost use Rattle.kernelharp.specs.Promise.{Returned, extentsIn, turnAnswer, TurnReturned, CompleteReturned};
+ghost use Rattle.kernelharp.specs.Steps.{turnedInto, Within, completedInto};
 
 // Word 0 of a turn's answer.
 const IDLE: u64 = 0;
@@ -154,6 +155,31 @@ fn put_kind(answer: &mut [u64; 64], kind: u64, port: u64)
     put_values(answer, kind, port, 0, 0, 0, 0, 0, 0, 0, 0, 0, 0);
 }
 
+// The answer of a turn as words, and the number to return.
+fn put_turned(answer: &mut [u64; 64], turned: Turned) -> u32
+    ensures { λ n. ⌜ (n ≡ turnedNumber turned) × (now (answer .exit) ≡ turnedInto turned (now (answer .entry))) ⌝ }
+{
+    match turned {
+        Turned::Refused(n) => n,
+        Turned::Idle => {
+            put_kind(answer, IDLE, 0);
+            0
+        }
+        Turned::Started(port, tag, serial, plan) => {
+            put_started(answer, port, tag, serial, plan);
+            0
+        }
+        Turned::Answered(port, reason, status, notify) => {
+            put_answered(answer, port, reason, status, notify);
+            0
+        }
+        Turned::Overrun(port) => {
+            put_kind(answer, OVERRUN, port.0 as u64);
+            0
+        }
+    }
+}
+
 // A turn that writes its extents where they belong in the answer, without a copy.
 fn turn_within(
     memory: &mut [u64; WORDS],
@@ -167,7 +193,6 @@ fn turn_within(
     backend::turn_into(memory, rings, grants, &mut answer[16..60])
 }
 
-// A completion's answer.
 fn put_done(answer: &mut [u64; 4], port: PortId, status: Status, notify: bool)
     ensures { λ _. ⌜ now (answer .exit) ≡ completedWords (Done.Done port status notify) ++ 0 ∷ [] ⌝ }
 {
@@ -176,6 +201,19 @@ fn put_done(answer: &mut [u64; 4], port: PortId, status: Status, notify: bool)
     answer[1] = magnitude(status);
     answer[2] = yes_no(notify);
     answer[3] = 0;
+}
+
+// The answer of a completion as words, and the number to return.
+fn put_completed(answer: &mut [u64; 4], completed: Completed) -> u32
+    ensures { λ n. ⌜ (n ≡ completedNumber completed) × (now (answer .exit) ≡ completedInto completed (now (answer .entry))) ⌝ }
+{
+    match completed {
+        Completed::Refused(n) => n,
+        Completed::Done(port, status, notify) => {
+            put_done(answer, port, status, notify);
+            0
+        }
+    }
 }
 
 // How many words of memory the archive asks for.
@@ -212,25 +250,7 @@ pub extern "C" fn kh_turn(
     ensures { λ n. ⌜ TurnReturned (now (memory .entry)) (now (rings .entry)) (now (grants .entry)) (now (answer .entry)) n (now (rings .exit)) (now (answer .exit)) (now (memory .exit)) ⌝ }
 {
     let turned = turn_within(memory, rings, grants, answer);
-    match turned {
-        Turned::Refused(n) => n,
-        Turned::Idle => {
-            put_kind(answer, IDLE, 0);
-            0
-        }
-        Turned::Started(port, tag, serial, plan) => {
-            put_started(answer, port, tag, serial, plan);
-            0
-        }
-        Turned::Answered(port, reason, status, notify) => {
-            put_answered(answer, port, reason, status, notify);
-            0
-        }
-        Turned::Overrun(port) => {
-            put_kind(answer, OVERRUN, port.0 as u64);
-            0
-        }
-    }
+    put_turned(answer, turned)
 }
 
 #[no_mangle]
@@ -245,7 +265,7 @@ pub extern "C" fn kh_complete(
 ) -> u32
     ensures { λ n. ⌜ CompleteReturned (now (memory .entry)) (now (rings .entry)) port tag serial result (now (answer .entry)) n (now (rings .exit)) (now (answer .exit)) (now (memory .exit)) ⌝ }
 {
-    let done = backend::complete(
+    let completed = backend::complete(
         memory,
         rings,
         PortId(port),
@@ -253,11 +273,5 @@ pub extern "C" fn kh_complete(
         Serial(serial),
         result,
     );
-    match done {
-        Completed::Refused(n) => n,
-        Completed::Done(port, status, notify) => {
-            put_done(answer, port, status, notify);
-            0
-        }
-    }
+    put_completed(answer, completed)
 }
