@@ -2,3 +2,17 @@
 .PHONY: test
 test:
 	@bash tests/run
+
+# The archive, where it isn't there yet.
+KERNELHARP_ARCHIVE ?= target/staticlib/libkernelharp.a
+target/staticlib/libkernelharp.a:
+	rt staticlib kernelharp
+
+# make install: the header, the archive and the pkg-config file, below DESTDIR and PREFIX.
+PREFIX ?= /usr/local
+.PHONY: install
+install: $(KERNELHARP_ARCHIVE)
+	install -d $(DESTDIR)$(PREFIX)/include $(DESTDIR)$(PREFIX)/lib/pkgconfig
+	install -m 644 include/kernelharp.h $(DESTDIR)$(PREFIX)/include
+	install -m 644 $(KERNELHARP_ARCHIVE) $(DESTDIR)$(PREFIX)/lib/libkernelharp.a
+	sed 's|@PREFIX@|$(PREFIX)|' kernelharp.pc.in >$(DESTDIR)$(PREFIX)/lib/pkgconfig/kernelharp.pc

@@ -1,0 +1,311 @@
+/*
+ * Kernelharp: the request core of a Xen block backend. C99 or later, and C++.
+ *
+ * The host owns all memory and lends it to each call. Nothing is allocated, and nothing is kept between calls but the
+ * backend memory. One backend, one thread at a time; two backends are two memories and know nothing of each other.
+ *
+ * Every call returns 0 when it was done, else the number of a refusal: of those that it lists, the first that applies.
+ * A refused call changes no byte behind any pointer, `answer` included. No content of a buffer, no length and no number
+ * is an error of the caller: each has its refusal or its answer. The caller's part is that each pointer has as many
+ * bytes behind it as its length or its array says, that memory and answers are aligned for uint64_t, and that the
+ * buffers of one call don't overlap. A pointer with length 0 may be null.
+ *
+ * A call sees the rings as they are at that call. Guests may write them between calls; while a call runs they must not,
+ * so a host whose guests can do so lends a copy.
+ */
+#ifndef KERNELHARP_H
+#define KERNELHARP_H
+
+#include <stdbool.h>
+#include <stddef.h>
+#include <stdint.h>
+
+#ifdef __cplusplus
+extern "C" {
+#endif
+
+/* Sizes of what a host lends. */
+#define KH_PORTS        8     /* ports 0 to 7, one guest disk each */
+#define KH_MEMORY_WORDS 1121  /* backend memory, in words of 64 bits */
+#define KH_RINGS_BYTES  32768 /* all ring pages: port k's at KH_RING_BYTES * k */
+#define KH_GRANTS_BYTES 8192  /* all grants: port k's at KH_PORT_GRANTS * k */
+#define KH_TURN_WORDS   64    /* answer of kh_turn */
+#define KH_DONE_WORDS   4     /* answer of kh_complete */
+
+/* A port's ring page: a header of four 32-bit indices, then the slots. Index i lives in slot i modulo KH_SLOTS. */
+#define KH_RING_BYTES     4096
+#define KH_REQ_PROD       0  /* the guest's: requests published */
+#define KH_REQ_EVENT      4  /* ours: the guest notifies when req_prod gets here */
+#define KH_RSP_PROD       8  /* ours: responses published */
+#define KH_RSP_EVENT      12 /* the guest's: we notify when rsp_prod gets here */
+#define KH_SLOTS_AT       64 /* slot s is at KH_SLOTS_AT + KH_SLOT_BYTES * s */
+#define KH_SLOTS          32
+#define KH_SLOT_BYTES     112
+#define KH_RESPONSE_BYTES 16 /* a response is the begin of its slot; the slot's other bytes stay */
+
+/* A port's grants: byte g speaks of frame g. Any other value is none; frames from KH_PORT_GRANTS up aren't granted. */
+#define KH_PORT_GRANTS      1024
+#define KH_GRANT_NONE       0
+#define KH_GRANT_READ       1 /* the backend may read the frame */
+#define KH_GRANT_READ_WRITE 2 /* read and write it */
+
+#define KH_TAGS          32  /* requests that a port can have in flight: tags 0 to 31 */
+#define KH_EXTENTS       11  /* extents that a plan can have */
+#define KH_SECTOR_BYTES  512 /* a sector, in every number here, whatever the node sector-size says */
+#define KH_FRAME_SECTORS 8   /* sectors of a frame */
+
+/* The nodes of a sheet, see kh_open. */
+enum kh_node {
+    KH_NODE_MODE = 1,            /* "r" or "w"; must be there */
+    KH_NODE_BARRIER = 2,         /* feature-barrier: "0" or "1"; absent means 0, here and in the next three */
+    KH_NODE_FLUSH = 3,           /* feature-flush-cache */
+    KH_NODE_DISCARD = 4,         /* feature-discard */
+    KH_NODE_DISCARD_SECURE = 5,  /* discard-secure */
+    KH_NODE_SECTOR_SIZE = 6,     /* 512, 1024, 2048 or 4096; must be there */
+    KH_NODE_SECTORS = 7,         /* of 512 bytes, 0 to 2^64 - 1; must be there */
+    KH_NODE_PROTOCOL = 8,        /* "x86_64-abi", also when absent */
+    KH_NODE_RING_PAGE_ORDER = 9, /* "0", also when absent */
+    KH_NODES = 9
+};
+
+/* What a call returns. */
+enum kh_refusal {
+    KH_DONE = 0,
+    KH_WRONG_LENGTH = 1,    /* rings or grants of the wrong length (turn, complete) */
+    KH_PORT_ABOVE_7 = 2,    /* (open, close, complete) */
+    KH_PORT_NOT_CLOSED = 3, /* (open) */
+    KH_PORT_CLOSED = 4,     /* (close, complete) */
+    KH_IN_FLIGHT = 5,       /* requests in flight (close) */
+    KH_NOT_BUSY = 6,        /* tag above 31, not busy, or busy with another serial (complete) */
+    KH_SHEET_SHAPE = 11,    /* sheet empty, more than 9 entries, a reserved byte not 0, wrong total length (open) */
+    KH_SHEET_NODES = 12,    /* node 0, above 9, or not rising (open) */
+    KH_SHEET_TEXT = 13,     /* nodes 1 to 5 and 8: any other text; 6, 7 and 9: no number (open) */
+    KH_SHEET_NUMBER = 14,   /* nodes 6, 7 and 9: a number that is not allowed there (open) */
+    KH_SHEET_MISSING = 15   /* node 1, 6 or 7 missing (open) */
+};
+
+/* What a turn did. */
+enum kh_kind {
+    KH_IDLE = 0,     /* no port had anything to serve */
+    KH_STARTED = 1,  /* a request was taken and is now in flight; the answer is its plan */
+    KH_ANSWERED = 2, /* a request was taken, failed a check, and has its response on the ring */
+    KH_OVERRUN = 3   /* a guest's req_prod makes no sense; its port is broken and served no more */
+};
+
+enum kh_operation {
+    KH_READ = 0,    /* disk to frames */
+    KH_WRITE = 1,   /* frames to disk */
+    KH_BARRIER = 2, /* a write with a barrier, or with no extents the barrier alone; its order is the host's business */
+    KH_FLUSH = 3,
+    KH_DISCARD = 5
+};
+
+/* Why a guest's request was answered at once: the first check that it failed. */
+enum kh_reason {
+    KH_UNKNOWN_OPERATION = 21, /* status not supported, as with 22 and 23; error with all others */
+    KH_FEATURE_OFF = 22,       /* barrier, flush or discard with its feature 0 */
+    KH_SECURE_OFF = 23,        /* secure discard with discard-secure 0 */
+    KH_READ_ONLY = 24,         /* write, barrier or discard in mode r */
+    KH_BAD_COUNT = 25,         /* number of segments not allowed for the operation, or a discard of 0 sectors */
+    KH_BAD_SEGMENT = 26,       /* a segment without first <= last <= 7 */
+    KH_NOT_GRANTED = 27,       /* a frame not granted as needed: a read needs KH_GRANT_READ_WRITE, others either */
+    KH_PAST_END = 28,          /* start + count above the node sectors */
+    KH_MISALIGNED = 29         /* start or count no multiple of sector-size / 512 */
+};
+
+/* A response's status, as on the ring. The answers' words hold its magnitude. */
+enum kh_status { KH_OKAY = 0, KH_ERROR = -1, KH_NOT_SUPPORTED = -2 };
+
+/* The result of kh_complete that gives the status not supported (-EOPNOTSUPP). */
+#define KH_RESULT_NOT_SUPPORTED (-95)
+
+/* Words of kh_turn's answer. A word that the kind does not use is 0, also those that have no name. */
+enum kh_turn_word {
+    KH_TURN_KIND = 0,
+    KH_TURN_PORT = 1, /* all kinds but idle */
+    KH_TURN_TAG = 2,  /* started, to KH_TURN_EXTENT_COUNT */
+    KH_TURN_SERIAL = 3,
+    KH_TURN_OPERATION = 4,
+    KH_TURN_START = 5,
+    KH_TURN_COUNT = 6,
+    KH_TURN_SECURE = 7, /* 0 or 1 */
+    KH_TURN_EXTENT_COUNT = 8,
+    KH_TURN_REASON = 9,  /* answered, to KH_TURN_NOTIFY */
+    KH_TURN_STATUS = 10, /* magnitude: 1 or 2 */
+    KH_TURN_NOTIFY = 11, /* 0 or 1 */
+    KH_TURN_EXTENTS = 16 /* started: extent i at KH_TURN_EXTENTS + KH_EXTENT_WORDS * i, i < KH_EXTENTS */
+};
+
+/* Words of an extent. */
+enum kh_extent_word { KH_EXTENT_FRAME = 0, KH_EXTENT_FIRST = 1, KH_EXTENT_LENGTH = 2, KH_EXTENT_SECTOR = 3 };
+#define KH_EXTENT_WORDS 4
+
+/* Words of kh_complete's answer; word 3 is 0. */
+enum kh_done_word {
+    KH_DONE_PORT = 0,
+    KH_DONE_STATUS = 1, /* magnitude: 0, 1 or 2 */
+    KH_DONE_NOTIFY = 2  /* 0 or 1 */
+};
+
+/*
+ * Backend memory. All zeros are the empty backend, eight closed ports: there is no call to set it up, and
+ * `static kh_memory memory;` is one. What the words hold is the library's business.
+ */
+typedef struct {
+    uint64_t words[KH_MEMORY_WORDS];
+} kh_memory;
+
+/* KH_MEMORY_WORDS as the archive was built, so that a host can refuse a header and an archive that don't match. */
+uint32_t kh_memory_words(void);
+
+/*
+ * Opens a closed port for the disk that the sheet describes: indices 0, nothing in flight. The ring page is not
+ * touched.
+ *
+ * A sheet is one byte, the number of entries (0 to 9); for each entry 4 bytes: node, 0, length of its body (16 bits,
+ * little-endian); then the bodies in that order, as text without a terminator, which end the sheet. Nodes rise
+ * strictly. Numbers are decimal digits with no sign, and no leading zero but in "0" itself.
+ *
+ * Refusals: 2, 3, then of the sheet 11, 12, 13 or 14 (the first body at fault), 15.
+ */
+uint32_t kh_open(uint64_t *memory, uint32_t port, const uint8_t *sheet, size_t sheet_bytes);
+
+/* Closes a port, open or broken, that has no requests in flight. Refusals: 2, 4, 5. */
+uint32_t kh_close(uint64_t *memory, uint32_t port);
+
+/*
+ * Serves one port: the first with something to serve, in ring order from the port after the one served last (port 0 at
+ * first). `answer` has KH_TURN_WORDS words, and all of them are written (kh_read_turn gives them as a struct).
+ *
+ * - idle: each open port's req_event is set so that its next request notifies, and that is the only change.
+ * - started: the rings stay. The host does the plan's I/O and then calls kh_complete with port, tag and serial.
+ * - answered: the response is in its slot and rsp_prod is raised; no other ring byte changes. Notify: send the event.
+ * - overrun: the rings stay. Completions of the port still work, and it can be closed.
+ *
+ * Refusals: 1.
+ */
+uint32_t kh_turn(uint64_t *memory, uint8_t *rings, size_t rings_bytes, const uint8_t *grants, size_t grants_bytes,
+                 uint64_t *answer);
+
+/*
+ * Answers a started request and frees its tag: the response is in its slot and rsp_prod is raised; no other ring byte
+ * changes. `answer` has KH_DONE_WORDS words, and all of them are written (kh_read_completion gives them as a struct).
+ *
+ * `result` is what the I/O gave. The plan's count for read, write and barrier, and 0 for flush and discard, has the
+ * status okay; KH_RESULT_NOT_SUPPORTED has not supported; anything else, a short count too, has error.
+ *
+ * A completion made twice is refused with 6, unless by then its tag and serial name a newer request (the port was
+ * opened again, or 2^32 requests came since): then it counts as that request's own.
+ *
+ * Refusals: 1 (the rings), 2, 4, 6.
+ */
+uint32_t kh_complete(uint64_t *memory, uint8_t *rings, size_t rings_bytes, uint32_t port, uint32_t tag, uint32_t serial,
+                     int32_t result, uint64_t *answer);
+
+/* A run of sectors in one frame, and where on the disk it goes. */
+typedef struct {
+    uint32_t frame;  /* grant reference, below KH_PORT_GRANTS */
+    uint32_t first;  /* first sector in the frame, 0 to 7 */
+    uint32_t length; /* sectors, 1 to 8 */
+    uint64_t sector; /* first sector on the disk; the extents follow each other there */
+} kh_extent;
+
+/* What the host does for a started request. */
+typedef struct {
+    uint32_t tag;
+    uint32_t serial;
+    uint32_t operation; /* enum kh_operation */
+    uint64_t start;     /* first sector on the disk; 0 for a flush and an empty barrier */
+    uint64_t count;     /* sectors; 0 for a flush and an empty barrier */
+    bool secure;        /* of a discard */
+    uint32_t extent_count;
+    kh_extent extents[KH_EXTENTS];
+} kh_plan;
+
+/* kh_turn's answer. */
+typedef struct {
+    uint32_t kind;   /* enum kh_kind */
+    uint32_t port;   /* all kinds but idle */
+    kh_plan plan;    /* started, else zeros */
+    uint32_t reason; /* answered, else 0: enum kh_reason */
+    int32_t status;  /* answered, else 0: enum kh_status */
+    bool notify;     /* answered: the guest is to be notified */
+} kh_turned;
+
+/* kh_complete's answer. */
+typedef struct {
+    uint32_t port;
+    int32_t status; /* enum kh_status */
+    bool notify;    /* the guest is to be notified */
+} kh_completed;
+
+/* Extent i of a turn's answer, i < KH_EXTENTS. */
+static inline kh_extent kh_read_extent(const uint64_t *answer, size_t i) {
+    const uint64_t *words = answer + KH_TURN_EXTENTS + KH_EXTENT_WORDS * i;
+    kh_extent extent;
+    extent.frame = (uint32_t)words[KH_EXTENT_FRAME];
+    extent.first = (uint32_t)words[KH_EXTENT_FIRST];
+    extent.length = (uint32_t)words[KH_EXTENT_LENGTH];
+    extent.sector = words[KH_EXTENT_SECTOR];
+    return extent;
+}
+
+/* The plan of a turn's answer. */
+static inline kh_plan kh_read_plan(const uint64_t *answer) {
+    kh_plan plan;
+    size_t i;
+    plan.tag = (uint32_t)answer[KH_TURN_TAG];
+    plan.serial = (uint32_t)answer[KH_TURN_SERIAL];
+    plan.operation = (uint32_t)answer[KH_TURN_OPERATION];
+    plan.start = answer[KH_TURN_START];
+    plan.count = answer[KH_TURN_COUNT];
+    plan.secure = answer[KH_TURN_SECURE] != 0;
+    plan.extent_count = (uint32_t)answer[KH_TURN_EXTENT_COUNT];
+    for (i = 0; i < KH_EXTENTS; i++)
+        plan.extents[i] = kh_read_extent(answer, i);
+    return plan;
+}
+
+/* The answer of a turn that was done, KH_TURN_WORDS words. */
+static inline kh_turned kh_read_turn(const uint64_t *answer) {
+    kh_turned turned;
+    turned.kind = (uint32_t)answer[KH_TURN_KIND];
+    turned.port = (uint32_t)answer[KH_TURN_PORT];
+    turned.plan = kh_read_plan(answer);
+    turned.reason = (uint32_t)answer[KH_TURN_REASON];
+    turned.status = -(int32_t)answer[KH_TURN_STATUS];
+    turned.notify = answer[KH_TURN_NOTIFY] != 0;
+    return turned;
+}
+
+/* The answer of a completion that was done, KH_DONE_WORDS words. */
+static inline kh_completed kh_read_completion(const uint64_t *answer) {
+    kh_completed completed;
+    completed.port = (uint32_t)answer[KH_DONE_PORT];
+    completed.status = -(int32_t)answer[KH_DONE_STATUS];
+    completed.notify = answer[KH_DONE_NOTIFY] != 0;
+    return completed;
+}
+
+/* What the numbers above say of each other, checked by whatever compiles this. */
+#if defined(__cplusplus) && __cplusplus >= 201103L
+#define KH_HOLDS(name, fact) static_assert(fact, #name)
+#elif defined(__STDC_VERSION__) && __STDC_VERSION__ >= 201112L
+#define KH_HOLDS(name, fact) _Static_assert(fact, #name)
+#else
+#define KH_HOLDS(name, fact) typedef char kh_holds_##name[(fact) ? 1 : -1]
+#endif
+KH_HOLDS(lengths_have_64_bits, sizeof(size_t) == 8 && sizeof(void *) == 8);
+KH_HOLDS(memory_is_its_words, sizeof(kh_memory) == 8 * KH_MEMORY_WORDS);
+KH_HOLDS(rings_are_a_page_a_port, KH_RINGS_BYTES == KH_PORTS * KH_RING_BYTES);
+KH_HOLDS(grants_are_a_share_a_port, KH_GRANTS_BYTES == KH_PORTS * KH_PORT_GRANTS);
+KH_HOLDS(slots_fit_the_page, KH_SLOTS_AT + KH_SLOTS * KH_SLOT_BYTES <= KH_RING_BYTES);
+KH_HOLDS(a_response_fits_its_slot, KH_RESPONSE_BYTES <= KH_SLOT_BYTES);
+KH_HOLDS(extents_fit_the_answer, KH_TURN_EXTENTS + KH_EXTENTS * KH_EXTENT_WORDS <= KH_TURN_WORDS);
+#undef KH_HOLDS
+
+#ifdef __cplusplus
+}
+#endif
+
+#endif

@@ -1,0 +1,88 @@
+/* kernelharp.h as C99, C11 and C++17: this file is compiled as each, linked with the archive, and run. */
+#include "check.h"
+
+static kh_memory memory;
+static uint8_t rings[KH_RINGS_BYTES];
+static uint8_t grants[KH_GRANTS_BYTES];
+
+static void check_archive_matches_header(void) {
+    CHECK_EQ(kh_memory_words(), KH_MEMORY_WORDS);
+}
+
+/* A guest's read of sectors 8 to 15 into frame 9, on port 1. */
+static void publish_read(void) {
+    uint8_t *page = rings + 1 * KH_RING_BYTES;
+    uint8_t *slot = page + KH_SLOTS_AT;
+    slot[0] = KH_READ;
+    slot[1] = 1;
+    put(slot + 8, 8, 0x1234);
+    put(slot + 16, 8, 8);
+    put(slot + 24, 4, 9);
+    slot[29] = 7;
+    put(page + KH_REQ_PROD, 4, 1);
+    put(page + KH_RSP_EVENT, 4, 1);
+    grants[1 * KH_PORT_GRANTS + 9] = KH_GRANT_READ_WRITE;
+}
+
+static void check_started_read(const kh_turned *turned) {
+    const kh_extent *extent = &turned->plan.extents[0];
+    CHECK(turned->kind == KH_STARTED && turned->port == 1);
+    CHECK(turned->plan.operation == KH_READ && turned->plan.start == 8 && turned->plan.count == 8);
+    CHECK(turned->plan.extent_count == 1 && !turned->plan.secure);
+    CHECK(extent->frame == 9 && extent->first == 0 && extent->length == 8 && extent->sector == 8);
+}
+
+/* The five functions, once each, as a host would. */
+static void check_calls(void) {
+    static const uint8_t sheet[21] = {3, 1, 0, 1, 0, 6, 0, 3, 0, 7, 0, 4, 0, 'w', '5', '1', '2', '2', '0', '0', '8'};
+    uint64_t answer[KH_TURN_WORDS];
+    uint64_t done[KH_DONE_WORDS];
+    kh_turned turned;
+    kh_completed completed;
+    publish_read();
+    CHECK_EQ(kh_open(memory.words, 1, NULL, 0), KH_SHEET_SHAPE);
+    CHECK_EQ(kh_open(memory.words, 1, sheet, sizeof sheet), KH_DONE);
+    CHECK_EQ(kh_turn(memory.words, NULL, 0, NULL, 0, answer), KH_WRONG_LENGTH);
+    CHECK_EQ(kh_turn(memory.words, rings, sizeof rings, grants, sizeof grants, answer), KH_DONE);
+    turned = kh_read_turn(answer);
+    check_started_read(&turned);
+    CHECK_EQ(kh_close(memory.words, 1), KH_IN_FLIGHT);
+    CHECK_EQ(kh_complete(memory.words, rings, sizeof rings, turned.port, turned.plan.tag, turned.plan.serial, 8, done),
+             KH_DONE);
+    completed = kh_read_completion(done);
+    CHECK(completed.port == 1 && completed.status == KH_OKAY && completed.notify);
+    CHECK_EQ(kh_close(memory.words, 1), KH_DONE);
+}
+
+/* Each word of an answer is read into the field that has its name. */
+static void check_turn_reader(void) {
+    uint64_t answer[KH_TURN_WORDS];
+    kh_turned turned;
+    size_t i;
+    for (i = 0; i < KH_TURN_WORDS; i++)
+        answer[i] = 100 + i;
+    turned = kh_read_turn(answer);
+    CHECK(turned.kind == 100 && turned.port == 101 && turned.plan.tag == 102 && turned.plan.serial == 103);
+    CHECK(turned.plan.operation == 104 && turned.plan.start == 105 && turned.plan.count == 106);
+    CHECK(turned.plan.secure && turned.plan.extent_count == 108);
+    CHECK(turned.reason == 109 && turned.status == -110 && turned.notify);
+    for (i = 0; i < KH_EXTENTS; i++) {
+        CHECK(turned.plan.extents[i].frame == 116 + 4 * i && turned.plan.extents[i].first == 117 + 4 * i);
+        CHECK(turned.plan.extents[i].length == 118 + 4 * i && turned.plan.extents[i].sector == 119 + 4 * i);
+    }
+}
+
+static void check_completion_reader(void) {
+    static const uint64_t done[KH_DONE_WORDS] = {7, 2, 1, 0};
+    kh_completed completed = kh_read_completion(done);
+    CHECK(completed.port == 7 && completed.status == KH_NOT_SUPPORTED && completed.notify);
+}
+
+int main(void) {
+    running.name = "header";
+    check_archive_matches_header();
+    check_calls();
+    check_turn_reader();
+    check_completion_reader();
+    return running.failures != 0;
+}

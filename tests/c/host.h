@@ -1,0 +1,262 @@
+/*
+ * A host that keeps books of what was answered, and checks of each call all that holds of every call: what a refused
+ * one leaves alone, the words that an answer does not use, and every ring byte.
+ */
+#ifndef HOST_H
+#define HOST_H
+
+#include "check.h"
+
+/* What was lent, in the order of the buffers below. */
+enum area { MEMORY, RINGS, GRANTS, TURNED, COMPLETED, AREAS };
+
+typedef struct {
+    uint64_t id;
+    uint8_t operation;
+    uint32_t serial;
+    int64_t expected; /* the result that gives okay */
+} started;
+
+/* What the answers so far say of a port. */
+typedef struct {
+    bool open;
+    uint32_t taken;
+    uint32_t answered;
+    uint32_t busy;
+    started tags[KH_TAGS];
+} book;
+
+typedef struct {
+    uint8_t *at[AREAS];
+    uint8_t *before[AREAS]; /* as it was before the last call */
+    size_t bytes[AREAS];
+    book books[KH_PORTS];
+} host;
+
+static inline uint64_t *words(const host *h, enum area area) {
+    return (uint64_t *)(void *)h->at[area];
+}
+
+static inline uint8_t *ring(const host *h, uint32_t port) {
+    return h->at[RINGS] + KH_RING_BYTES * port;
+}
+
+static inline uint32_t index_at(const host *h, uint32_t port, unsigned field) {
+    return (uint32_t)get(ring(h, port) + field, 4);
+}
+
+static inline void set_index(const host *h, uint32_t port, unsigned field, uint32_t value) {
+    put(ring(h, port) + field, 4, value);
+}
+
+static inline uint8_t *slot_in(uint8_t *page, uint32_t index) {
+    return page + KH_SLOTS_AT + KH_SLOT_BYTES * (index % KH_SLOTS);
+}
+
+static inline void grant(const host *h, uint32_t port, uint32_t frame, uint8_t value) {
+    h->at[GRANTS][KH_PORT_GRANTS * port + frame] = value;
+}
+
+/* Another length for one of the buffers; 0 is a null pointer. */
+static inline void resize(host *h, enum area area, size_t bytes) {
+    if (h->at[area] != NULL)
+        give_back(h->at[area], h->bytes[area]);
+    free(h->before[area]);
+    h->bytes[area] = bytes;
+    h->at[area] = bytes > 0 ? lend(bytes) : NULL;
+    h->before[area] = bytes > 0 ? (uint8_t *)malloc(bytes) : NULL;
+}
+
+/* The empty backend, empty rings, and frames 0 to 15 of every port granted for read and write. */
+static inline void reset(host *h) {
+    static const size_t bytes[AREAS] = {8 * KH_MEMORY_WORDS, KH_RINGS_BYTES, KH_GRANTS_BYTES, 8 * KH_TURN_WORDS,
+                                        8 * KH_DONE_WORDS};
+    for (int area = 0; area < AREAS; area++) {
+        if (h->bytes[area] != bytes[area])
+            resize(h, (enum area)area, bytes[area]);
+        memset(h->at[area], 0, bytes[area]);
+    }
+    for (uint32_t port = 0; port < KH_PORTS; port++)
+        memset(h->at[GRANTS] + KH_PORT_GRANTS * port, KH_GRANT_READ_WRITE, 16);
+    memset(h->books, 0, sizeof h->books);
+}
+
+/* ---- what holds of every call */
+
+static inline void remember(const host *h) {
+    for (int area = 0; area < AREAS; area++)
+        if (h->bytes[area] > 0)
+            memcpy(h->before[area], h->at[area], h->bytes[area]);
+}
+
+static inline void check_same(const host *h, enum area area) {
+    static const char *const names[AREAS] = {"memory", "rings", "grants", "turn's answer", "completion's answer"};
+    size_t i = 0;
+    if (h->bytes[area] == 0 || memcmp(h->at[area], h->before[area], h->bytes[area]) == 0)
+        return;
+    while (h->at[area][i] == h->before[area][i])
+        i++;
+    report(__FILE__, __LINE__, names[area]);
+    printf(": byte %zu is %02x, not %02x\n", i, h->at[area][i], h->before[area][i]);
+}
+
+/* A refused call changed nothing, and one that was done only areas of `changes`, a bit to each. */
+static inline void check_kept(const host *h, uint32_t number, unsigned changes) {
+    for (int area = 0; area < AREAS; area++)
+        if (number != KH_DONE || (changes >> area & 1) == 0)
+            check_same(h, (enum area)area);
+}
+
+/* Puts a port's next response into the page that it was before the call, and checks the call's notify. */
+static inline void expect_response(host *h, uint32_t port, const started *request, uint64_t status, uint64_t notify) {
+    uint8_t *page = h->before[RINGS] + KH_RING_BYTES * port;
+    uint8_t *slot = slot_in(page, h->books[port].answered++);
+    CHECK_EQ(notify, get(page + KH_RSP_EVENT, 4) == h->books[port].answered);
+    put(slot, 8, request->id);
+    put(slot + 8, 2, request->operation);
+    put(slot + 10, 2, 0 - status);
+    put(slot + 12, 4, 0);
+    put(page + KH_RSP_PROD, 4, h->books[port].answered);
+}
+
+static inline uint32_t lowest_free(uint32_t busy) {
+    uint32_t tag = 0;
+    while (tag < KH_TAGS && (busy >> tag & 1) != 0)
+        tag++;
+    return tag;
+}
+
+static inline void check_started(book *b, started request, const uint64_t *answer) {
+    CHECK_EQ(answer[KH_TURN_TAG], lowest_free(b->busy));
+    CHECK_EQ(answer[KH_TURN_SERIAL], b->taken);
+    CHECK_EQ(answer[KH_TURN_OPERATION], request.operation);
+    CHECK(answer[KH_TURN_EXTENT_COUNT] <= KH_EXTENTS);
+    request.serial = b->taken++;
+    request.expected = request.operation <= KH_BARRIER ? (int64_t)answer[KH_TURN_COUNT] : 0;
+    b->busy |= UINT32_C(1) << answer[KH_TURN_TAG] % KH_TAGS;
+    b->tags[answer[KH_TURN_TAG] % KH_TAGS] = request;
+}
+
+static inline void check_answered(host *h, uint32_t port, started request, const uint64_t *answer) {
+    uint64_t reason = answer[KH_TURN_REASON];
+    CHECK(reason >= KH_UNKNOWN_OPERATION && reason <= KH_MISALIGNED);
+    CHECK_EQ(answer[KH_TURN_STATUS], reason <= KH_SECURE_OFF ? 2 : 1);
+    h->books[port].taken++;
+    expect_response(h, port, &request, answer[KH_TURN_STATUS], answer[KH_TURN_NOTIFY]);
+}
+
+static inline void expect_req_events(host *h) {
+    for (uint32_t port = 0; port < KH_PORTS; port++)
+        if (h->books[port].open)
+            put(h->before[RINGS] + KH_RING_BYTES * port + KH_REQ_EVENT, 4, h->books[port].taken + 1);
+}
+
+/* Whether a kind uses a word of the answer. */
+static inline bool uses_word(const uint64_t *answer, unsigned word) {
+    uint64_t kind = answer[KH_TURN_KIND];
+    if (word == KH_TURN_KIND || (word == KH_TURN_PORT && kind != KH_IDLE))
+        return true;
+    if (kind == KH_ANSWERED)
+        return word >= KH_TURN_REASON && word <= KH_TURN_NOTIFY;
+    return kind == KH_STARTED && ((word >= KH_TURN_TAG && word <= KH_TURN_EXTENT_COUNT) ||
+                                  (word >= KH_TURN_EXTENTS && word / 4 - 4 < answer[KH_TURN_EXTENT_COUNT]));
+}
+
+/* The answer of a turn that was done, the rings after it, and what both say of the port. */
+static inline void check_turn(host *h) {
+    const uint64_t *answer = words(h, TURNED);
+    uint32_t port = (uint32_t)(answer[KH_TURN_PORT] % KH_PORTS);
+    book *b = &h->books[port];
+    const uint8_t *slot = slot_in(h->before[RINGS] + KH_RING_BYTES * port, b->taken);
+    started request = {get(slot + 8, 8), slot[0], 0, 0};
+    CHECK(answer[KH_TURN_KIND] <= KH_OVERRUN && answer[KH_TURN_PORT] < KH_PORTS);
+    CHECK(answer[KH_TURN_KIND] == KH_IDLE || b->open);
+    if (answer[KH_TURN_KIND] == KH_IDLE)
+        expect_req_events(h);
+    else if (answer[KH_TURN_KIND] == KH_STARTED)
+        check_started(b, request, answer);
+    else if (answer[KH_TURN_KIND] == KH_ANSWERED)
+        check_answered(h, port, request, answer);
+    else
+        b->open = false;
+    check_same(h, RINGS);
+    for (unsigned word = 0; word < KH_TURN_WORDS; word++)
+        if (!uses_word(answer, word))
+            CHECK_EQ(answer[word], 0);
+}
+
+static inline void check_completion(host *h, uint32_t port, uint32_t tag, uint32_t serial, int32_t result) {
+    const uint64_t *answer = words(h, COMPLETED);
+    book *b = &h->books[port % KH_PORTS];
+    started *request = &b->tags[tag % KH_TAGS];
+    CHECK(port < KH_PORTS && tag < KH_TAGS);
+    CHECK((b->busy >> tag % KH_TAGS & 1) != 0 && request->serial == serial);
+    CHECK_EQ(answer[KH_DONE_PORT], port);
+    CHECK_EQ(answer[KH_DONE_STATUS], result == request->expected ? 0 : result == KH_RESULT_NOT_SUPPORTED ? 2 : 1);
+    CHECK_EQ(answer[3], 0);
+    b->busy &= ~(UINT32_C(1) << tag % KH_TAGS);
+    expect_response(h, port % KH_PORTS, request, answer[KH_DONE_STATUS], answer[KH_DONE_NOTIFY]);
+    check_same(h, RINGS);
+}
+
+/* ---- the calls; each returns the call's number */
+
+static inline uint32_t do_open(host *h, uint32_t port, const uint8_t *sheet, size_t bytes) {
+    uint8_t *lent = bytes > 0 ? lend(bytes) : NULL;
+    uint32_t number;
+    if (bytes > 0)
+        memcpy(lent, sheet, bytes);
+    remember(h);
+    number = kh_open(words(h, MEMORY), port, lent, bytes);
+    check_kept(h, number, 1 << MEMORY);
+    if (bytes > 0) {
+        CHECK(memcmp(lent, sheet, bytes) == 0);
+        give_back(lent, bytes);
+    }
+    if (number == KH_DONE) {
+        memset(&h->books[port], 0, sizeof h->books[port]);
+        h->books[port].open = true;
+    }
+    return number;
+}
+
+static inline uint32_t do_close(host *h, uint32_t port) {
+    uint32_t number;
+    remember(h);
+    number = kh_close(words(h, MEMORY), port);
+    check_kept(h, number, 1 << MEMORY);
+    if (number == KH_DONE)
+        memset(&h->books[port], 0, sizeof h->books[port]);
+    return number;
+}
+
+static inline uint32_t do_turn(host *h) {
+    uint32_t number;
+    memset(h->at[TURNED], 0xA5, h->bytes[TURNED]);
+    remember(h);
+    number =
+        kh_turn(words(h, MEMORY), h->at[RINGS], h->bytes[RINGS], h->at[GRANTS], h->bytes[GRANTS], words(h, TURNED));
+    check_kept(h, number, 1 << MEMORY | 1 << RINGS | 1 << TURNED);
+    if (number == KH_DONE)
+        check_turn(h);
+    return number;
+}
+
+static inline uint32_t do_complete(host *h, uint32_t port, uint32_t tag, uint32_t serial, int32_t result) {
+    uint32_t number;
+    memset(h->at[COMPLETED], 0xA5, h->bytes[COMPLETED]);
+    remember(h);
+    number =
+        kh_complete(words(h, MEMORY), h->at[RINGS], h->bytes[RINGS], port, tag, serial, result, words(h, COMPLETED));
+    check_kept(h, number, 1 << MEMORY | 1 << RINGS | 1 << COMPLETED);
+    if (number == KH_DONE)
+        check_completion(h, port, tag, serial, result);
+    return number;
+}
+
+#define OPEN(h, port, sheet, bytes)            MADE_HERE(do_open(h, port, sheet, bytes))
+#define CLOSE(h, port)                         MADE_HERE(do_close(h, port))
+#define TURN(h)                                MADE_HERE(do_turn(h))
+#define COMPLETE(h, port, tag, serial, result) MADE_HERE(do_complete(h, port, tag, serial, result))
+
+#endif

@@ -1,0 +1,322 @@
+/*
+ * Any bytes, any lengths and any numbers, in long pseudo-random lists of calls: each returns one of its numbers, a
+ * refused one changes nothing, and none reads or writes beside its buffers.
+ */
+#include "test.h"
+
+enum { CALLS = 150000, LAST_NUMBER = 15 };
+
+static const uint64_t seed = UINT64_C(0x6B65726E656C6861);
+
+static uint64_t state;
+
+/* splitmix64. No expression below draws twice where C leaves the order open, so that a seed gives one list of calls. */
+static uint64_t any(void) {
+    uint64_t z = state += UINT64_C(0x9E3779B97F4A7C15);
+    z = (z ^ z >> 30) * UINT64_C(0xBF58476D1CE4E5B9);
+    z = (z ^ z >> 27) * UINT64_C(0x94D049BB133111EB);
+    return z ^ z >> 31;
+}
+
+static uint32_t below(uint32_t bound) {
+    return (uint32_t)(any() >> 33) % bound;
+}
+
+static bool one_in(uint32_t n) {
+    return below(n) == 0;
+}
+
+static void fill(uint8_t *bytes, size_t count) {
+    for (size_t i = 0; i < count; i++)
+        bytes[i] = (uint8_t)any();
+}
+
+/* ---- which numbers came */
+
+enum call { CALL_OPEN, CALL_CLOSE, CALL_TURN, CALL_COMPLETE, CALL_COUNT };
+
+static const struct {
+    const char *name;
+    unsigned numbers; /* that it may return, a bit to each */
+} calls[CALL_COUNT] = {
+    {"open", 1 << 0 | 1 << 2 | 1 << 3 | 1 << 11 | 1 << 12 | 1 << 13 | 1 << 14 | 1 << 15},
+    {"close", 1 << 0 | 1 << 2 | 1 << 4 | 1 << 5},
+    {"turn", 1 << 0 | 1 << 1},
+    {"complete", 1 << 0 | 1 << 1 | 1 << 2 | 1 << 4 | 1 << 6},
+};
+
+static unsigned long came[CALL_COUNT][LAST_NUMBER + 1];
+static unsigned long kinds[KH_OVERRUN + 1];
+static unsigned long reasons[KH_MISALIGNED + 1];
+
+static void begin_counts(void) {
+    state = seed;
+    memset(came, 0, sizeof came);
+    memset(kinds, 0, sizeof kinds);
+    memset(reasons, 0, sizeof reasons);
+}
+
+static void count(const host *h, enum call call, uint32_t number) {
+    const uint64_t *answer = words(h, TURNED);
+    CHECK(number <= LAST_NUMBER && (calls[call].numbers >> number & 1) != 0);
+    came[call][number % (LAST_NUMBER + 1)]++;
+    if (call == CALL_TURN && number == KH_DONE) {
+        CHECK(answer[KH_TURN_KIND] <= KH_OVERRUN && answer[KH_TURN_REASON] <= KH_MISALIGNED);
+        kinds[answer[KH_TURN_KIND] % COUNT_OF(kinds)]++;
+        reasons[answer[KH_TURN_REASON] % COUNT_OF(reasons)]++;
+    }
+}
+
+static void print_counts(void) {
+    printf("     %d calls, seed 0x%llx:", CALLS, (unsigned long long)seed);
+    for (int call = 0; call < CALL_COUNT; call++)
+        for (unsigned number = 0; number <= LAST_NUMBER; number++)
+            if ((calls[call].numbers >> number & 1) != 0)
+                printf(" %s %u: %lu,", calls[call].name, number, came[call][number]);
+    for (unsigned kind = 0; kind < COUNT_OF(kinds); kind++)
+        printf(" kind %u: %lu,", kind, kinds[kind]);
+    for (unsigned reason = KH_UNKNOWN_OPERATION; reason < COUNT_OF(reasons); reason++)
+        printf(" reason %u: %lu%s", reason, reasons[reason], reason < KH_MISALIGNED ? "," : "\n");
+}
+
+/* All numbers came, kinds and reasons too. */
+static void end_counts(void) {
+    for (int call = 0; call < CALL_COUNT; call++)
+        for (unsigned number = 0; number <= LAST_NUMBER; number++)
+            CHECK(came[call][number] > 0 || (calls[call].numbers >> number & 1) == 0);
+    for (unsigned kind = 0; kind < COUNT_OF(kinds); kind++)
+        CHECK(kinds[kind] > 0);
+    for (unsigned reason = KH_UNKNOWN_OPERATION; reason < COUNT_OF(reasons); reason++)
+        CHECK(reasons[reason] > 0);
+    if (placement != BEFORE_GUARD || running.failures > 0)
+        print_counts(); /* the same in both places */
+}
+
+/* ---- arguments */
+
+static uint32_t any_port(void) {
+    return one_in(16) ? (uint32_t)any() : below(KH_PORTS + (one_in(8) ? 1 : 0));
+}
+
+static int32_t any_result(const started *request) {
+    static const int32_t usual[] = {0, -5, -95, 8};
+    if (one_in(2))
+        return (int32_t)request->expected;
+    return one_in(4) ? (int32_t)(uint32_t)any() : usual[below(COUNT_OF(usual))];
+}
+
+/* A good sheet, one with some bytes or its length changed, or rubbish. */
+static sheet any_sheet(void) {
+    static const char *const good[] = {USUAL_NODES,
+                                       ALL_FEATURES,
+                                       "1:r 2:1 3:1 4:1 6:512 7:2008",
+                                       "1:w 2:1 3:1 4:1 5:0 6:4096 7:2008 8:x86_64-abi 9:0",
+                                       "1:w 4:1 5:1 6:1024 7:18446744073709551615",
+                                       "1:w 6:512",
+                                       "1:w 6:513 7:1"};
+    sheet s = sheet_of(good[below(COUNT_OF(good))]);
+    uint8_t *changed = &s.bytes[below((uint32_t)s.length)];
+    if (one_in(3))
+        *changed = one_in(2) ? (uint8_t)any() : (uint8_t)below(12);
+    if (one_in(12))
+        s.length = below(sizeof s.bytes);
+    if (one_in(12))
+        fill(s.bytes, sizeof s.bytes);
+    return s;
+}
+
+static request any_request(void) {
+    static const uint8_t operations[] = {0, 1, 2, 3, 5, 5};
+    request r = transfer(operations[below(6)], 1, 0);
+    r.start = below(256) * 8;
+    if (!one_in(4))
+        r.n = (uint8_t)below(13);
+    else if (r.operation == KH_FLUSH)
+        r.n = 0;
+    if (one_in(8))
+        r.operation = (uint8_t)any();
+    segment *changed = &r.segments[below(KH_EXTENTS)];
+    if (one_in(8))
+        changed->frame = below(20);
+    if (one_in(8))
+        changed->first = (uint8_t)below(10);
+    if (one_in(8))
+        changed->last = (uint8_t)below(10);
+    if (one_in(8))
+        r.start = one_in(2) ? any() : below(2100);
+    r.sectors = one_in(4) ? any() : below(20);
+    if (one_in(2))
+        r.sectors >>= below(64);
+    return r;
+}
+
+/* What a guest may do to its page between two calls. */
+static void guest_writes(const host *h, uint32_t port) {
+    uint32_t frame = below(20);
+    set_index(h, port, KH_REQ_PROD, h->books[port].taken);
+    for (uint32_t i = below(4); i > 0; i--)
+        post(h, port, any_request());
+    if (one_in(6))
+        fill(slot_in(ring(h, port), (uint32_t)any()), KH_SLOT_BYTES);
+    if (one_in(40))
+        set_index(h, port, KH_REQ_PROD, (uint32_t)any());
+    if (one_in(200))
+        fill(ring(h, port), KH_RING_BYTES);
+    if (one_in(2))
+        set_index(h, port, KH_RSP_EVENT, h->books[port].answered + below(3));
+    grant(h, port, frame, one_in(4) ? (uint8_t)below(4) : KH_GRANT_READ_WRITE);
+}
+
+/* One buffer has a wrong length for one call, once in a while. */
+static bool lend_wrongly(host *h) {
+    static const size_t lengths[] = {
+        0, 1, KH_RING_BYTES, KH_GRANTS_BYTES - 1, KH_GRANTS_BYTES + 1, KH_RINGS_BYTES - 1, KH_RINGS_BYTES + 1};
+    enum area area = one_in(2) ? RINGS : GRANTS;
+    if (!one_in(64))
+        return false;
+    resize(h, area, lengths[below(COUNT_OF(lengths))]);
+    fill(h->at[area], h->bytes[area]);
+    return true;
+}
+
+static void lend_rightly(host *h) {
+    if (h->bytes[RINGS] != KH_RINGS_BYTES)
+        resize(h, RINGS, KH_RINGS_BYTES);
+    if (h->bytes[GRANTS] != KH_GRANTS_BYTES)
+        resize(h, GRANTS, KH_GRANTS_BYTES);
+}
+
+/* ---- lists of calls from the empty backend, all that is due of each checked by the host */
+
+static void call_open(host *h) {
+    sheet s = any_sheet();
+    count(h, CALL_OPEN, OPEN(h, any_port(), s.bytes, s.length));
+}
+
+static void call_complete(host *h) {
+    uint32_t port = any_port();
+    uint32_t tag = one_in(16) ? (uint32_t)any() : below(KH_TAGS);
+    const book *b = &h->books[port % KH_PORTS];
+    if (b->busy != 0 && !one_in(8))
+        while ((b->busy >> tag % KH_TAGS & 1) == 0)
+            tag = (tag + 1) % KH_TAGS;
+    const started *request = &b->tags[tag % KH_TAGS];
+    uint32_t serial = one_in(16) ? (uint32_t)any() : request->serial;
+    count(h, CALL_COMPLETE, COMPLETE(h, port, tag, serial, any_result(request)));
+}
+
+static void call_any(host *h) {
+    uint32_t draw = below(100);
+    if (draw < 15)
+        call_open(h);
+    else if (draw < 20)
+        count(h, CALL_CLOSE, CLOSE(h, any_port()));
+    else if (draw < 60)
+        count(h, CALL_TURN, TURN(h));
+    else
+        call_complete(h);
+}
+
+static void any_calls_from_the_empty_backend(host *h) {
+    begin_counts();
+    for (int i = 0; i < CALLS; i++) {
+        bool wrong;
+        guest_writes(h, below(KH_PORTS));
+        wrong = lend_wrongly(h);
+        call_any(h);
+        if (wrong)
+            lend_rightly(h);
+    }
+    end_counts();
+}
+
+/* ---- calls on memory of any content, which is some backend too; no books can be kept of it */
+
+/* What a call that was done may have changed in the rings is taken over, so that what it may not shows. */
+static void take_over(const host *h, uint32_t port, unsigned at, unsigned bytes) {
+    memcpy(h->before[RINGS] + KH_RING_BYTES * port + at, ring(h, port) + at, bytes);
+}
+
+static void take_over_response(const host *h, uint64_t port) {
+    CHECK(port < KH_PORTS);
+    uint32_t k = (uint32_t)port % KH_PORTS;
+    uint32_t last = index_at(h, k, KH_RSP_PROD) - 1;
+    take_over(h, k, KH_RSP_PROD, 4);
+    take_over(h, k, KH_SLOTS_AT + KH_SLOT_BYTES * (last % KH_SLOTS), KH_RESPONSE_BYTES);
+}
+
+static void turn_on_any_memory(host *h) {
+    const uint64_t *answer = words(h, TURNED);
+    uint32_t number =
+        kh_turn(words(h, MEMORY), h->at[RINGS], h->bytes[RINGS], h->at[GRANTS], h->bytes[GRANTS], words(h, TURNED));
+    count(h, CALL_TURN, number);
+    if (number == KH_DONE && answer[KH_TURN_KIND] == KH_IDLE)
+        for (uint32_t port = 0; port < KH_PORTS; port++)
+            take_over(h, port, KH_REQ_EVENT, 4);
+    if (number == KH_DONE && answer[KH_TURN_KIND] == KH_ANSWERED)
+        take_over_response(h, answer[KH_TURN_PORT]);
+    check_kept(h, number, 1 << MEMORY | 1 << TURNED);
+}
+
+static void complete_on_any_memory(host *h) {
+    uint32_t tag = below(KH_TAGS + 1);
+    uint32_t port = any_port();
+    uint32_t serial = one_in(2) ? (uint32_t)any() : below(4);
+    uint32_t number = kh_complete(words(h, MEMORY), h->at[RINGS], h->bytes[RINGS], port, tag, serial,
+                                  (int32_t)below(3) - 1, words(h, COMPLETED));
+    count(h, CALL_COMPLETE, number);
+    if (number == KH_DONE)
+        take_over_response(h, words(h, COMPLETED)[KH_DONE_PORT]);
+    check_kept(h, number, 1 << MEMORY | 1 << COMPLETED);
+}
+
+static void open_on_any_memory(host *h) {
+    sheet s = any_sheet();
+    uint8_t *lent = lend(s.length);
+    memcpy(lent, s.bytes, s.length);
+    uint32_t number = kh_open(words(h, MEMORY), any_port(), lent, s.length);
+    count(h, CALL_OPEN, number);
+    check_kept(h, number, 1 << MEMORY);
+    give_back(lent, s.length);
+}
+
+static void close_on_any_memory(host *h) {
+    uint32_t number = kh_close(words(h, MEMORY), any_port());
+    count(h, CALL_CLOSE, number);
+    check_kept(h, number, 1 << MEMORY);
+}
+
+/* Words of any size, many of them small, so that every state and flag comes; half of them stay. */
+static void scribble_memory(const host *h) {
+    for (int i = 0; i < KH_MEMORY_WORDS; i++)
+        if (one_in(2))
+            words(h, MEMORY)[i] = one_in(3) ? any() : below(4);
+}
+
+static void any_calls_on_any_memory(host *h) {
+    static void (*const choices[])(host *) = {open_on_any_memory, close_on_any_memory, turn_on_any_memory,
+                                              turn_on_any_memory, complete_on_any_memory};
+    begin_counts();
+    for (int i = 0; i < CALLS; i++) {
+        bool wrong;
+        if (i % 16 == 0)
+            scribble_memory(h);
+        for (uint32_t port = 0; port < KH_PORTS; port++)
+            h->books[port].taken = below(8);
+        guest_writes(h, below(KH_PORTS));
+        wrong = lend_wrongly(h);
+        remember(h);
+        choices[below(COUNT_OF(choices))](h);
+        if (wrong)
+            lend_rightly(h);
+    }
+    end_counts();
+}
+
+int main(void) {
+    static const test tests[] = {
+        TEST(any_calls_from_the_empty_backend),
+        TEST(any_calls_on_any_memory),
+    };
+    return run_tests(tests, COUNT_OF(tests));
+}

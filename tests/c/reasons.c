@@ -1,0 +1,241 @@
+/* One test or more for each reason number of document 01, on both sides of its line. */
+#include "test.h"
+
+static request with_segment(request r, int i, uint32_t frame, uint8_t first, uint8_t last) {
+    r.segments[i] = (segment){frame, first, last};
+    return r;
+}
+
+static void reason_21_unknown_operation(host *h) {
+    static const uint8_t known[] = {KH_READ, KH_WRITE, KH_BARRIER, KH_FLUSH, KH_DISCARD};
+    bool is_known[256] = {false};
+    for (size_t i = 0; i < COUNT_OF(known); i++)
+        is_known[known[i]] = true;
+    for (int operation = 0; operation < 256; operation++) {
+        request r = transfer((uint8_t)operation, operation == KH_FLUSH ? 0 : 1, 0);
+        r.sectors = 1;
+        BEGIN(h, "1:w 2:1 3:1 4:1 5:1 6:512 7:2008");
+        CHECK_EQ(JUDGE(h, r), is_known[operation] ? 0 : 21);
+    }
+    BEGIN(h, "1:r 6:4096 7:0");
+    CHECK_EQ(JUDGE(h, transfer(4, 99, UINT64_MAX)), 21); /* before all others */
+}
+
+static void reason_22_feature_off(host *h) {
+    static const struct {
+        const char *on, *off;
+        request r;
+    } lines[] = {{"1:w 2:1 6:512 7:2008", "1:w 2:0 3:1 4:1 5:1 6:512 7:2008", {KH_BARRIER, 0, 0, 0, {{0, 0, 0}}}},
+                 {"1:w 3:1 6:512 7:2008", "1:w 2:1 3:0 4:1 5:1 6:512 7:2008", {KH_FLUSH, 0, 0, 0, {{0, 0, 0}}}},
+                 {"1:w 4:1 6:512 7:2008", "1:w 2:1 3:1 4:0 5:1 6:512 7:2008", {KH_DISCARD, 0, 0, 1, {{0, 0, 0}}}}};
+    for (size_t i = 0; i < COUNT_OF(lines); i++) {
+        BEGIN(h, lines[i].on);
+        CHECK_EQ(JUDGE(h, lines[i].r), 0);
+        BEGIN(h, lines[i].off);
+        CHECK_EQ(JUDGE(h, lines[i].r), 22);
+        BEGIN(h, "1:w 6:512 7:2008");
+        CHECK_EQ(JUDGE(h, lines[i].r), 22);
+        CHECK_EQ(JUDGE(h, transfer(KH_READ, 1, 0)), 0);
+        CHECK_EQ(JUDGE(h, transfer(KH_WRITE, 1, 0)), 0);
+        BEGIN(h, "1:r 6:512 7:0");
+        CHECK_EQ(JUDGE(h, lines[i].r), 22); /* before 24 and 28 */
+    }
+    CHECK_EQ(JUDGE(h, discard(1, 0, 0)), 22); /* before 23 and 25 */
+}
+
+static void reason_23_secure_off(host *h) {
+    const uint64_t *answer = words(h, TURNED);
+    for (int flag = 0; flag < 256; flag++) {
+        BEGIN(h, "1:w 4:1 6:512 7:2008");
+        CHECK_EQ(JUDGE(h, discard((uint8_t)flag, 0, 1)), flag & 1 ? 23 : 0);
+        BEGIN(h, "1:w 4:1 5:1 6:512 7:2008");
+        CHECK_EQ(JUDGE(h, discard((uint8_t)flag, 0, 1)), 0);
+        CHECK_EQ(answer[KH_TURN_SECURE], flag & 1);
+    }
+    BEGIN(h, "1:r 4:1 5:0 6:512 7:2008");
+    CHECK_EQ(JUDGE(h, discard(1, 0, 0)), 23); /* before 24 and 25 */
+}
+
+static void reason_24_read_only(host *h) {
+    BEGIN(h, "1:r 2:1 3:1 4:1 6:512 7:2008");
+    CHECK_EQ(JUDGE(h, transfer(KH_READ, 1, 0)), 0);
+    CHECK_EQ(JUDGE(h, transfer(KH_FLUSH, 0, 0)), 0);
+    CHECK_EQ(JUDGE(h, transfer(KH_WRITE, 1, 0)), 24);
+    CHECK_EQ(JUDGE(h, transfer(KH_WRITE, 12, 0)), 24);
+    CHECK_EQ(JUDGE(h, transfer(KH_BARRIER, 0, 0)), 24);
+    CHECK_EQ(JUDGE(h, discard(0, 0, 1)), 24);
+    BEGIN(h, ALL_FEATURES);
+    CHECK_EQ(JUDGE(h, transfer(KH_WRITE, 1, 0)), 0);
+    CHECK_EQ(JUDGE(h, transfer(KH_BARRIER, 0, 0)), 0);
+    CHECK_EQ(JUDGE(h, discard(0, 0, 1)), 0);
+}
+
+static void reason_25_segment_count(host *h) {
+    BEGIN(h, ALL_FEATURES);
+    for (int n = 0; n < 256; n++) {
+        uint32_t fault = n >= 1 && n <= 11 ? 0 : 25;
+        CHECK_EQ(JUDGE(h, transfer(KH_READ, (uint8_t)n, 0)), fault);
+        CHECK_EQ(JUDGE(h, transfer(KH_WRITE, (uint8_t)n, 0)), fault);
+        CHECK_EQ(JUDGE(h, transfer(KH_BARRIER, (uint8_t)n, 0)), n == 0 ? 0 : fault);
+        CHECK_EQ(JUDGE(h, transfer(KH_FLUSH, (uint8_t)n, 0)), n == 0 ? 0 : 25);
+    }
+    CHECK_EQ(JUDGE(h, with_segment(transfer(KH_READ, 12, 0), 0, 5, 3, 2)), 25); /* before 26 */
+}
+
+static void reason_25_discard_of_0_sectors(host *h) {
+    BEGIN(h, ALL_FEATURES);
+    CHECK_EQ(JUDGE(h, discard(0, 0, 0)), 25);
+    CHECK_EQ(JUDGE(h, discard(0, UINT64_MAX, 0)), 25); /* before 28 */
+    CHECK_EQ(JUDGE(h, discard(0, 0, 1)), 0);
+    CHECK_EQ(JUDGE(h, discard(0, 0, UINT64_C(1) << 32)), 28);
+}
+
+static void reason_26_bad_segment(host *h) {
+    BEGIN(h, USUAL_NODES);
+    CHECK_EQ(JUDGE(h, with_segment(transfer(KH_READ, 1, 0), 0, 5, 3, 2)), 26);
+    CHECK_EQ(JUDGE(h, with_segment(transfer(KH_READ, 1, 0), 0, 5, 0, 8)), 26);
+    CHECK_EQ(JUDGE(h, with_segment(transfer(KH_READ, 1, 0), 0, 5, 8, 8)), 26);
+    CHECK_EQ(JUDGE(h, with_segment(transfer(KH_READ, 1, 0), 0, 5, 255, 255)), 26);
+    CHECK_EQ(JUDGE(h, with_segment(transfer(KH_READ, 1, 0), 0, 5, 7, 7)), 0);
+    CHECK_EQ(words(h, TURNED)[KH_TURN_COUNT], 1);
+    for (int i = 0; i < KH_EXTENTS; i++) {
+        CHECK_EQ(JUDGE(h, with_segment(transfer(KH_WRITE, 11, 0), i, 5, 1, 0)), 26);
+        CHECK_EQ(JUDGE(h, with_segment(transfer(KH_WRITE, (uint8_t)(i > 0 ? i : 1), 0), i, 5, 1, 0)), i > 0 ? 0 : 26);
+    }
+}
+
+static void reason_26_over_all_segments_before_27(host *h) {
+    request r = with_segment(transfer(KH_READ, 2, 0), 0, 100, 0, 7);
+    BEGIN(h, USUAL_NODES);
+    CHECK_EQ(JUDGE(h, r), 27);
+    CHECK_EQ(JUDGE(h, with_segment(r, 1, 5, 3, 2)), 26);
+}
+
+static void reason_26_27_skipped(host *h) {
+    request r = discard(0, 0, 0xFF00FF); /* as a segment: not granted */
+    memset(r.segments, 0xFF, sizeof r.segments);
+    BEGIN(h, "1:w 2:1 3:1 4:1 6:512 7:18446744073709551615");
+    CHECK_EQ(JUDGE(h, r), 0);
+    CHECK_EQ(words(h, TURNED)[KH_TURN_COUNT], 0xFF00FF);
+    r.operation = KH_FLUSH;
+    CHECK_EQ(JUDGE(h, r), 0);
+    r.operation = KH_BARRIER;
+    CHECK_EQ(JUDGE(h, r), 0);
+}
+
+static void reason_27_grant_byte(host *h) {
+    BEGIN(h, ALL_FEATURES);
+    for (int value = 0; value < 256; value++) {
+        uint32_t reading = value == KH_GRANT_READ || value == KH_GRANT_READ_WRITE ? 0 : 27;
+        grant(h, 0, 5, (uint8_t)value);
+        CHECK_EQ(JUDGE(h, transfer(KH_READ, 1, 0)), value == KH_GRANT_READ_WRITE ? 0 : 27);
+        CHECK_EQ(JUDGE(h, transfer(KH_WRITE, 1, 0)), reading);
+        CHECK_EQ(JUDGE(h, transfer(KH_BARRIER, 1, 0)), reading);
+    }
+}
+
+static void reason_27_frame(host *h) {
+    static const uint32_t never[] = {1024, 1025, 2048, 65536, UINT32_C(1) << 31, UINT32_MAX};
+    BEGIN(h, USUAL_NODES);
+    memset(h->at[GRANTS], KH_GRANT_READ_WRITE, KH_GRANTS_BYTES);
+    CHECK_EQ(JUDGE(h, with_segment(transfer(KH_READ, 1, 0), 0, 1023, 0, 7)), 0);
+    for (size_t i = 0; i < COUNT_OF(never); i++)
+        CHECK_EQ(JUDGE(h, with_segment(transfer(KH_READ, 1, 0), 0, never[i], 0, 7)), 27);
+    for (int i = 0; i < KH_EXTENTS; i++)
+        CHECK_EQ(JUDGE(h, with_segment(transfer(KH_READ, 11, 0), i, 1024, 0, 7)), 27);
+    memset(h->at[GRANTS], 0, KH_PORT_GRANTS); /* only the other ports' */
+    CHECK_EQ(JUDGE(h, transfer(KH_READ, 1, 0)), 27);
+    CHECK_EQ(JUDGE(h, transfer(KH_READ, 1, UINT64_MAX)), 27); /* before 28 */
+}
+
+/* The four starred sentences on one read. */
+static void reason_27_28_read_at_2000(host *h) {
+    BEGIN(h, "1:w 6:512 7:2008");
+    CHECK_EQ(JUDGE(h, transfer(KH_READ, 1, 2000)), 0);
+    CHECK_EQ(words(h, TURNED)[KH_TURN_COUNT], 8);
+    grant(h, 0, 5, KH_GRANT_READ);
+    CHECK_EQ(JUDGE(h, transfer(KH_READ, 1, 2000)), 27);
+    CHECK_EQ(JUDGE(h, transfer(KH_WRITE, 1, 2000)), 0);
+    BEGIN(h, "1:w 6:512 7:2007");
+    CHECK_EQ(JUDGE(h, transfer(KH_READ, 1, 2000)), 28);
+}
+
+static void reason_28_past_end(host *h) {
+    BEGIN(h, ALL_FEATURES);
+    CHECK_EQ(JUDGE(h, transfer(KH_READ, 1, 2001)), 28);
+    CHECK_EQ(JUDGE(h, transfer(KH_READ, 11, 1920)), 0);
+    CHECK_EQ(JUDGE(h, transfer(KH_READ, 11, 1921)), 28);
+    CHECK_EQ(JUDGE(h, transfer(KH_WRITE, 1, UINT64_MAX)), 28);
+    CHECK_EQ(JUDGE(h, transfer(KH_BARRIER, 1, UINT64_MAX - 7)), 28);
+    CHECK_EQ(JUDGE(h, discard(0, 2007, 1)), 0);
+    CHECK_EQ(JUDGE(h, discard(0, 2008, 1)), 28);
+    CHECK_EQ(JUDGE(h, discard(0, 1, UINT64_MAX)), 28);
+    CHECK_EQ(JUDGE(h, discard(0, UINT64_MAX, UINT64_MAX)), 28);
+    CHECK_EQ(JUDGE(h, transfer(KH_FLUSH, 0, UINT64_MAX)), 0);
+    CHECK_EQ(words(h, TURNED)[KH_TURN_START], 0);
+    CHECK_EQ(JUDGE(h, transfer(KH_BARRIER, 0, UINT64_MAX)), 0);
+    CHECK_EQ(words(h, TURNED)[KH_TURN_START], 0);
+    BEGIN(h, "1:w 6:4096 7:0");
+    CHECK_EQ(JUDGE(h, transfer(KH_READ, 1, 4)), 28); /* before 29 */
+}
+
+static void reason_28_at_2_to_the_64(host *h) {
+    BEGIN(h, "1:w 4:1 6:512 7:18446744073709551615");
+    CHECK_EQ(JUDGE(h, with_segment(transfer(KH_READ, 1, UINT64_MAX), 0, 5, 7, 7)), 28);
+    CHECK_EQ(JUDGE(h, with_segment(transfer(KH_READ, 1, UINT64_MAX - 1), 0, 5, 7, 7)), 0);
+    CHECK_EQ(JUDGE(h, transfer(KH_READ, 1, UINT64_MAX - 8)), 0);
+    CHECK_EQ(JUDGE(h, transfer(KH_READ, 1, UINT64_MAX - 7)), 28);
+    CHECK_EQ(JUDGE(h, discard(0, 0, UINT64_MAX)), 0);
+    CHECK_EQ(JUDGE(h, discard(0, 1, UINT64_MAX)), 28);
+}
+
+static void reason_29_misaligned(host *h) {
+    static const struct {
+        const char *nodes;
+        uint8_t unit;
+    } sizes[] = {{"1:w 2:1 3:1 4:1 6:512 7:2008", 1},
+                 {"1:w 2:1 3:1 4:1 6:1024 7:2008", 2},
+                 {"1:w 2:1 3:1 4:1 6:2048 7:2008", 4},
+                 {"1:w 2:1 3:1 4:1 6:4096 7:2008", 8}};
+    for (size_t i = 0; i < COUNT_OF(sizes); i++) {
+        BEGIN(h, sizes[i].nodes);
+        for (uint8_t n = 1; n <= 8; n++) {
+            CHECK_EQ(JUDGE(h, transfer(KH_READ, 1, n)), n % sizes[i].unit == 0 ? 0 : 29);
+            CHECK_EQ(JUDGE(h, with_segment(transfer(KH_WRITE, 1, 8), 0, 5, 0, n - 1)), n % sizes[i].unit == 0 ? 0 : 29);
+            CHECK_EQ(JUDGE(h, discard(0, n, 8)), n % sizes[i].unit == 0 ? 0 : 29);
+            CHECK_EQ(JUDGE(h, discard(0, 8, n)), n % sizes[i].unit == 0 ? 0 : 29);
+        }
+        CHECK_EQ(JUDGE(h, transfer(KH_FLUSH, 0, 1)), 0);
+        CHECK_EQ(JUDGE(h, transfer(KH_BARRIER, 0, 1)), 0);
+    }
+}
+
+static void reason_29_total_count(host *h) {
+    request r = with_segment(transfer(KH_READ, 2, 8), 0, 5, 5, 7);
+    BEGIN(h, "1:w 6:4096 7:2008");
+    CHECK_EQ(JUDGE(h, with_segment(r, 1, 6, 0, 4)), 0); /* 3 + 5 sectors */
+    CHECK_EQ(words(h, TURNED)[KH_TURN_COUNT], 8);
+    CHECK_EQ(JUDGE(h, with_segment(r, 1, 6, 0, 3)), 29);
+}
+
+int main(void) {
+    static const test tests[] = {
+        TEST(reason_21_unknown_operation),
+        TEST(reason_22_feature_off),
+        TEST(reason_23_secure_off),
+        TEST(reason_24_read_only),
+        TEST(reason_25_segment_count),
+        TEST(reason_25_discard_of_0_sectors),
+        TEST(reason_26_bad_segment),
+        TEST(reason_26_over_all_segments_before_27),
+        TEST(reason_26_27_skipped),
+        TEST(reason_27_grant_byte),
+        TEST(reason_27_frame),
+        TEST(reason_27_28_read_at_2000),
+        TEST(reason_28_past_end),
+        TEST(reason_28_at_2_to_the_64),
+        TEST(reason_29_misaligned),
+        TEST(reason_29_total_count),
+    };
+    return run_tests(tests, COUNT_OF(tests));
+}

@@ -1,0 +1,158 @@
+/* One test or more for each refusal number from 1 to 6, on both sides of its line. */
+#include "test.h"
+
+static void refusal_01_wrong_length_in_turn(host *h) {
+    static const size_t lengths[][2] = {{KH_RINGS_BYTES - 1, KH_GRANTS_BYTES},
+                                        {KH_RINGS_BYTES + 1, KH_GRANTS_BYTES},
+                                        {0, KH_GRANTS_BYTES},
+                                        {KH_RINGS_BYTES, KH_GRANTS_BYTES - 1},
+                                        {KH_RINGS_BYTES, KH_GRANTS_BYTES + 1},
+                                        {KH_RINGS_BYTES, 0},
+                                        {KH_GRANTS_BYTES, KH_RINGS_BYTES},
+                                        {KH_RING_BYTES, KH_PORT_GRANTS},
+                                        {1, 1},
+                                        {0, 0}};
+    CHECK_EQ(TURN(h), KH_DONE);
+    for (size_t i = 0; i < COUNT_OF(lengths); i++) {
+        BEGIN(h, USUAL_NODES);
+        resize(h, RINGS, lengths[i][0]);
+        resize(h, GRANTS, lengths[i][1]);
+        if (h->bytes[RINGS] > 0)
+            h->at[RINGS][KH_REQ_PROD] = 1;
+        CHECK_EQ(TURN(h), 1);
+    }
+}
+
+static void refusal_01_wrong_length_in_complete(host *h) {
+    static const size_t lengths[] = {0, 1, KH_RING_BYTES, KH_RINGS_BYTES - 1, KH_RINGS_BYTES + 1};
+    for (size_t i = 0; i < COUNT_OF(lengths); i++) {
+        BEGIN(h, USUAL_NODES);
+        post(h, 0, transfer(KH_READ, 1, 0));
+        CHECK_EQ(TURN(h), KH_DONE);
+        resize(h, RINGS, lengths[i]);
+        CHECK_EQ(COMPLETE(h, 0, 0, 0, 8), 1);
+        CHECK_EQ(COMPLETE(h, 8, 0, 0, 8), 1);
+        CHECK_EQ(COMPLETE(h, 1, 0, 0, 8), 1);
+        CHECK_EQ(COMPLETE(h, 0, 32, 0, 8), 1);
+        resize(h, RINGS, KH_RINGS_BYTES);
+        CHECK_EQ(COMPLETE(h, 0, 0, 0, 8), KH_DONE);
+    }
+}
+
+static void refusal_02_port_above_7(host *h) {
+    static const uint32_t ports[] = {8, 9, 255, 256, 65536, UINT32_C(1) << 29, UINT32_C(1) << 31, UINT32_MAX};
+    for (size_t i = 0; i < COUNT_OF(ports); i++) {
+        CHECK_EQ(OPEN_NODES(h, ports[i], USUAL_NODES), 2);
+        CHECK_EQ(OPEN(h, ports[i], NULL, 0), 2);
+        CHECK_EQ(CLOSE(h, ports[i]), 2);
+        CHECK_EQ(COMPLETE(h, ports[i], 32, 0, 0), 2);
+    }
+    CHECK_EQ(OPEN_NODES(h, 7, USUAL_NODES), KH_DONE);
+    post(h, 7, transfer(KH_READ, 1, 0));
+    CHECK_EQ(TURN(h), KH_DONE);
+    CHECK_EQ(COMPLETE(h, 7, 0, 0, 8), KH_DONE);
+    CHECK_EQ(CLOSE(h, 7), KH_DONE);
+}
+
+static void refusal_03_port_not_closed(host *h) {
+    BEGIN(h, USUAL_NODES);
+    CHECK_EQ(OPEN_NODES(h, 0, USUAL_NODES), 3);
+    CHECK_EQ(OPEN(h, 0, NULL, 0), 3);
+    set_index(h, 0, KH_REQ_PROD, 33);
+    CHECK_EQ(TURN(h), KH_DONE);
+    CHECK_EQ(words(h, TURNED)[KH_TURN_KIND], KH_OVERRUN);
+    CHECK_EQ(OPEN_NODES(h, 0, USUAL_NODES), 3);
+    CHECK_EQ(CLOSE(h, 0), KH_DONE);
+    CHECK_EQ(OPEN_NODES(h, 0, USUAL_NODES), KH_DONE);
+    CHECK_EQ(OPEN_NODES(h, 1, USUAL_NODES), KH_DONE);
+}
+
+static void refusal_04_port_closed(host *h) {
+    for (uint32_t port = 0; port < KH_PORTS; port++) {
+        CHECK_EQ(CLOSE(h, port), 4);
+        CHECK_EQ(COMPLETE(h, port, 0, 0, 0), 4);
+        CHECK_EQ(COMPLETE(h, port, 32, 0, 0), 4);
+        CHECK_EQ(OPEN_NODES(h, port, USUAL_NODES), KH_DONE);
+        CHECK_EQ(COMPLETE(h, port, 0, 0, 0), 6);
+        CHECK_EQ(CLOSE(h, port), KH_DONE);
+        CHECK_EQ(CLOSE(h, port), 4);
+    }
+}
+
+static void refusal_05_in_flight(host *h) {
+    BEGIN(h, USUAL_NODES);
+    post(h, 0, transfer(KH_READ, 1, 0));
+    post(h, 0, transfer(KH_READ, 0, 0));
+    CHECK_EQ(TURN(h), KH_DONE);
+    CHECK_EQ(CLOSE(h, 0), 5);
+    CHECK_EQ(TURN(h), KH_DONE); /* answered at once, so not in flight */
+    set_index(h, 0, KH_REQ_PROD, 0);
+    CHECK_EQ(TURN(h), KH_DONE);
+    CHECK_EQ(words(h, TURNED)[KH_TURN_KIND], KH_OVERRUN);
+    CHECK_EQ(CLOSE(h, 0), 5);
+    CHECK_EQ(COMPLETE(h, 0, 0, 0, 8), KH_DONE);
+    CHECK_EQ(CLOSE(h, 0), KH_DONE);
+}
+
+static void refusal_05_requests_waiting_only(host *h) {
+    BEGIN(h, USUAL_NODES);
+    post(h, 0, transfer(KH_READ, 1, 0));
+    CHECK_EQ(CLOSE(h, 0), KH_DONE);
+}
+
+/* A read in flight on port 0: tag 0, serial 0. */
+static void begin_in_flight(host *h) {
+    BEGIN(h, USUAL_NODES);
+    post(h, 0, transfer(KH_READ, 1, 0));
+    CHECK_EQ(TURN(h), KH_DONE);
+}
+
+static void refusal_06_tag_above_31(host *h) {
+    static const uint32_t tags[] = {32, 33, 64, 256, UINT32_C(1) << 31, UINT32_MAX};
+    begin_in_flight(h);
+    for (size_t i = 0; i < COUNT_OF(tags); i++)
+        CHECK_EQ(COMPLETE(h, 0, tags[i], 0, 8), 6);
+    CHECK_EQ(COMPLETE(h, 0, 0, 0, 8), KH_DONE);
+}
+
+static void refusal_06_tag_31_is_a_tag(host *h) {
+    BEGIN(h, USUAL_NODES);
+    for (int i = 0; i < KH_TAGS; i++) {
+        post(h, 0, transfer(KH_READ, 1, 0));
+        CHECK_EQ(TURN(h), KH_DONE);
+    }
+    CHECK_EQ(words(h, TURNED)[KH_TURN_TAG], 31);
+    CHECK_EQ(COMPLETE(h, 0, 31, 31, 8), KH_DONE);
+}
+
+static void refusal_06_not_busy(host *h) {
+    begin_in_flight(h);
+    for (uint32_t tag = 1; tag < KH_TAGS; tag++)
+        CHECK_EQ(COMPLETE(h, 0, tag, 0, 8), 6);
+    CHECK_EQ(COMPLETE(h, 0, 0, 0, 8), KH_DONE);
+    CHECK_EQ(COMPLETE(h, 0, 0, 0, 8), 6);
+}
+
+static void refusal_06_another_serial(host *h) {
+    static const uint32_t serials[] = {1, 32, 256, UINT32_C(1) << 31, UINT32_MAX};
+    begin_in_flight(h);
+    for (size_t i = 0; i < COUNT_OF(serials); i++)
+        CHECK_EQ(COMPLETE(h, 0, 0, serials[i], 8), 6);
+    CHECK_EQ(COMPLETE(h, 0, 0, 0, 8), KH_DONE);
+    post(h, 0, transfer(KH_READ, 1, 0));
+    CHECK_EQ(TURN(h), KH_DONE);
+    CHECK_EQ(COMPLETE(h, 0, 0, 0, 8), 6);
+    CHECK_EQ(COMPLETE(h, 0, 0, 1, 8), KH_DONE);
+}
+
+int main(void) {
+    static const test tests[] = {
+        TEST(refusal_01_wrong_length_in_turn),  TEST(refusal_01_wrong_length_in_complete),
+        TEST(refusal_02_port_above_7),          TEST(refusal_03_port_not_closed),
+        TEST(refusal_04_port_closed),           TEST(refusal_05_in_flight),
+        TEST(refusal_05_requests_waiting_only), TEST(refusal_06_tag_above_31),
+        TEST(refusal_06_tag_31_is_a_tag),       TEST(refusal_06_not_busy),
+        TEST(refusal_06_another_serial),
+    };
+    return run_tests(tests, COUNT_OF(tests));
+}

@@ -1,0 +1,196 @@
+/* One test or more for each refusal number of a node sheet, 11 to 15, on both sides of its line. */
+#include "test.h"
+
+/* The number that a sheet gets on a closed port. */
+static uint32_t do_read_sheet(host *h, sheet s) {
+    uint32_t number = do_open(h, 0, s.bytes, s.length);
+    if (number == KH_DONE)
+        CHECK_EQ(do_close(h, 0), KH_DONE);
+    return number;
+}
+
+#define READ_BYTES(h, s)     MADE_HERE(do_read_sheet(h, s))
+#define READ_NODES(h, nodes) MADE_HERE(do_read_sheet(h, sheet_of(nodes)))
+
+/* Each sheet of a list gets that number. */
+static void do_read_each(host *h, const char *const *sheets, size_t count, uint32_t number) {
+    for (size_t i = 0; i < count; i++)
+        check_at(__FILE__, __LINE__, sheets[i], do_read_sheet(h, sheet_of(sheets[i])) == number);
+}
+
+#define READ_EACH(h, sheets, number) MADE_HERE(do_read_each(h, sheets, COUNT_OF(sheets), number))
+
+/* The usual sheet of 21 bytes with one byte changed. */
+static sheet usual_but(size_t at, uint8_t byte) {
+    sheet s = sheet_of(USUAL_NODES);
+    s.bytes[at] = byte;
+    return s;
+}
+
+static void sheet_of_21_bytes(host *h) {
+    static const uint8_t bytes[21] = {0x03, 0x01, 0x00, 0x01, 0x00, 0x06, 0x00, 0x03, 0x00, 0x07, 0x00,
+                                      0x04, 0x00, 0x77, 0x35, 0x31, 0x32, 0x32, 0x30, 0x30, 0x38};
+    sheet s = sheet_of(USUAL_NODES);
+    CHECK(s.length == sizeof bytes && memcmp(s.bytes, bytes, sizeof bytes) == 0);
+    CHECK_EQ(OPEN(h, 0, bytes, sizeof bytes), KH_DONE);
+}
+
+static void refusal_11_empty(host *h) {
+    uint8_t *nothing = lend(0);
+    CHECK_EQ(OPEN(h, 0, NULL, 0), 11);
+    CHECK_EQ(kh_open(words(h, MEMORY), 0, nothing, 0), 11);
+    CHECK_EQ(READ_NODES(h, ""), 15); /* no entries, and that is well formed */
+    give_back(nothing, 0);
+}
+
+static void refusal_11_more_than_9_entries(host *h) {
+    sheet s = sheet_of("1:r 2:0 3:0 4:0 5:0 6:512 7:1 8:x86_64-abi 9:0");
+    CHECK_EQ(READ_BYTES(h, s), KH_DONE);
+    s = sheet_of("1:r 2:0 3:0 4:0 5:0 6:512 7:1 8:x86_64-abi 9:0 9:0");
+    CHECK_EQ(READ_BYTES(h, s), 11);
+    s.bytes[0] = 255;
+    CHECK_EQ(READ_BYTES(h, s), 11);
+}
+
+static void refusal_11_reserved_byte(host *h) {
+    for (size_t entry = 0; entry < 3; entry++) {
+        CHECK_EQ(READ_BYTES(h, usual_but(2 + 4 * entry, 1)), 11);
+        CHECK_EQ(READ_BYTES(h, usual_but(2 + 4 * entry, 0x80)), 11);
+        CHECK_EQ(READ_BYTES(h, usual_but(2 + 4 * entry, 0)), KH_DONE);
+    }
+}
+
+static void refusal_11_wrong_total_length(host *h) {
+    sheet s = usual_but(21, '0');
+    for (s.length = 1; s.length <= 22; s.length++)
+        CHECK_EQ(READ_BYTES(h, s), s.length == 21 ? KH_DONE : 11);
+    CHECK_EQ(READ_BYTES(h, usual_but(11, 3)), 11);
+    CHECK_EQ(READ_BYTES(h, usual_but(11, 5)), 11);
+    CHECK_EQ(READ_BYTES(h, usual_but(12, 1)), 11);
+    CHECK_EQ(READ_BYTES(h, usual_but(0, 2)), 11);
+    CHECK_EQ(READ_BYTES(h, usual_but(0, 4)), 11);
+}
+
+static void refusal_11_before_12(host *h) {
+    sheet s = sheet_of("0:x 0:y");
+    CHECK_EQ(READ_BYTES(h, s), 12);
+    s.length++;
+    CHECK_EQ(READ_BYTES(h, s), 11);
+}
+
+static void refusal_12_node_0_or_above_9(host *h) {
+    CHECK_EQ(READ_BYTES(h, usual_but(1, 0)), 12);
+    CHECK_EQ(READ_BYTES(h, usual_but(9, 10)), 12);
+    CHECK_EQ(READ_BYTES(h, usual_but(9, 255)), 12);
+    CHECK_EQ(READ_NODES(h, USUAL_NODES " 9:0"), KH_DONE);
+}
+
+static void refusal_12_not_rising(host *h) {
+    CHECK_EQ(READ_NODES(h, "1:w 1:w 6:512 7:2008"), 12);
+    CHECK_EQ(READ_NODES(h, "6:512 1:w 7:2008"), 12);
+    CHECK_EQ(READ_NODES(h, "1:w 7:2008 6:512"), 12);
+    CHECK_EQ(READ_NODES(h, "1:w 6:512 7:2008 7:2008"), 12);
+    CHECK_EQ(READ_NODES(h, "1:x 6:x 6:x"), 12); /* before 13 */
+}
+
+static void refusal_13_text(host *h) {
+    static const char *const wrong[] = {"1: 6:512 7:1",
+                                        "1:x 6:512 7:1",
+                                        "1:W 6:512 7:1",
+                                        "1:ww 6:512 7:1",
+                                        "1:rw 6:512 7:1",
+                                        "1:w 2: 6:512 7:1",
+                                        "1:w 2:2 6:512 7:1",
+                                        "1:w 2:00 6:512 7:1",
+                                        "1:w 3:2 6:512 7:1",
+                                        "1:w 4:yes 6:512 7:1",
+                                        "1:w 5:01 6:512 7:1",
+                                        "1:w 6:512 7:1 8:",
+                                        "1:w 6:512 7:1 8:x86_32-abi",
+                                        "1:w 6:512 7:1 8:x86_64-ab",
+                                        "1:w 6:512 7:1 8:x86_64-abii"};
+    static const char *const right[] = {"1:r 6:512 7:1", "1:w 6:512 7:1", "1:w 2:0 3:1 4:0 5:1 6:512 7:1",
+                                        "1:w 2:1 3:0 4:1 5:0 6:512 7:1", "1:w 6:512 7:1 8:x86_64-abi"};
+    READ_EACH(h, wrong, 13);
+    READ_EACH(h, right, KH_DONE);
+}
+
+static void refusal_13_not_a_number(host *h) {
+    static const char *const wrong[] = {"1:w 6: 7:1",         "1:w 6:0512 7:1",
+                                        "1:w 6:+512 7:1",     "1:w 6:512x 7:1",
+                                        "1:w 6:512 7:",       "1:w 6:512 7:01",
+                                        "1:w 6:512 7:00",     "1:w 6:512 7:-1",
+                                        "1:w 6:512 7:0x10",   "1:w 6:512 7:1/",
+                                        "1:w 6:512 7::",      "1:w 6:512 7:1 9:",
+                                        "1:w 6:512 7:1 9:00", "1:w 6:512 7:18446744073709551616x"};
+    READ_EACH(h, wrong, 13);
+    CHECK_EQ(READ_NODES(h, "1:w 6:512 7:0"), KH_DONE);
+}
+
+static void refusal_14_number_not_allowed(host *h) {
+    static const char *const wrong[] = {"1:w 6:0 7:1",
+                                        "1:w 6:1 7:1",
+                                        "1:w 6:511 7:1",
+                                        "1:w 6:513 7:1",
+                                        "1:w 6:8192 7:1",
+                                        "1:w 6:18446744073709552128 7:1", /* 512 modulo 2^64 */
+                                        "1:w 6:512 7:18446744073709551616",
+                                        "1:w 6:512 7:99999999999999999999",
+                                        "1:w 6:512 7:100000000000000000000000000000000000000000000000000",
+                                        "1:w 6:512 7:1 9:1",
+                                        "1:w 6:512 7:1 9:18446744073709551616"};
+    static const char *const right[] = {"1:w 6:512 7:1",  "1:w 6:1024 7:1",    "1:w 6:2048 7:1",
+                                        "1:w 6:4096 7:1", "1:w 6:512 7:1 9:0", "1:w 6:512 7:18446744073709551615"};
+    READ_EACH(h, wrong, 14);
+    READ_EACH(h, right, KH_DONE);
+}
+
+/* The longest body that a length of 16 bits can give, all of one digit. */
+static void refusal_14_long_number(host *h) {
+    static uint8_t bytes[13 + 4 + 65535];
+    sheet head = sheet_of("1:w 6:512 7:");
+    memset(bytes, '9', sizeof bytes);
+    memcpy(bytes, head.bytes, head.length);
+    put(bytes + 11, 2, 65535);
+    CHECK_EQ(OPEN(h, 0, bytes, head.length + 65535), 14);
+    bytes[head.length + 65534] = 'x';
+    CHECK_EQ(OPEN(h, 0, bytes, head.length + 65535), 13);
+    CHECK_EQ(OPEN(h, 0, bytes, head.length + 65534), 11);
+}
+
+static void refusal_13_14_first_body_at_fault(host *h) {
+    CHECK_EQ(READ_NODES(h, "1:w 6:1 7:x"), 14);
+    CHECK_EQ(READ_NODES(h, "1:x 6:1 7:1"), 13);
+    CHECK_EQ(READ_NODES(h, "1:w 6:x 7:18446744073709551616"), 13);
+    CHECK_EQ(READ_NODES(h, "6:1"), 14); /* before 15 */
+    CHECK_EQ(READ_NODES(h, "1:w 7:x"), 13);
+}
+
+static void refusal_15_node_missing(host *h) {
+    CHECK_EQ(READ_NODES(h, ""), 15);
+    CHECK_EQ(READ_NODES(h, "6:512 7:2008"), 15);
+    CHECK_EQ(READ_NODES(h, "1:w 7:2008"), 15);
+    CHECK_EQ(READ_NODES(h, "1:w 6:512"), 15);
+    CHECK_EQ(READ_NODES(h, "2:1 3:1 4:1 5:1 8:x86_64-abi 9:0"), 15);
+    CHECK_EQ(READ_NODES(h, "1:w 6:512 7:2008"), KH_DONE);
+}
+
+int main(void) {
+    static const test tests[] = {
+        TEST(sheet_of_21_bytes),
+        TEST(refusal_11_empty),
+        TEST(refusal_11_more_than_9_entries),
+        TEST(refusal_11_reserved_byte),
+        TEST(refusal_11_wrong_total_length),
+        TEST(refusal_11_before_12),
+        TEST(refusal_12_node_0_or_above_9),
+        TEST(refusal_12_not_rising),
+        TEST(refusal_13_text),
+        TEST(refusal_13_not_a_number),
+        TEST(refusal_14_number_not_allowed),
+        TEST(refusal_14_long_number),
+        TEST(refusal_13_14_first_body_at_fault),
+        TEST(refusal_15_node_missing),
+    };
+    return run_tests(tests, COUNT_OF(tests));
+}
