@@ -1,7 +1,10 @@
-//! The replayed list of calls, run through the reference: its lines are those that the proved
-//! program wrote, answers and changed page bytes alike.
+//! The replayed list of calls, run through the reference and the archive: their lines are those that
+//! the proved program wrote, answers and changed page bytes alike.
 
-use kernelharp_host::reference::{Backend, Done, Turned};
+mod common;
+
+use common::Both;
+use kernelharp_host::reference::{Done, Plan, Turned};
 use std::fmt::Write;
 use std::str::FromStr;
 
@@ -57,29 +60,31 @@ fn turned(answer: Result<Turned, u32>) -> String {
             status as i16,
             notify(wanted)
         ),
-        Ok(Turned::Started(plan)) => {
-            let mut line = format!(
-                "turn started port {} tag {} serial {} operation {} start {} count {}{} extents {}",
-                plan.port,
-                plan.tag,
-                plan.serial,
-                plan.operation as u8,
-                plan.start,
-                plan.count,
-                if plan.secure { " secure" } else { "" },
-                plan.extents.len()
-            );
-            for extent in &plan.extents {
-                write!(
-                    line,
-                    " | {} {} {} {}",
-                    extent.frame, extent.first_sector, extent.length, extent.disk_sector
-                )
-                .unwrap();
-            }
-            line
-        }
+        Ok(Turned::Started(plan)) => started(&plan),
     }
+}
+
+fn started(plan: &Plan) -> String {
+    let mut line = format!(
+        "turn started port {} tag {} serial {} operation {} start {} count {}{} extents {}",
+        plan.port,
+        plan.tag,
+        plan.serial,
+        plan.operation as u8,
+        plan.start,
+        plan.count,
+        if plan.secure { " secure" } else { "" },
+        plan.extents.len()
+    );
+    for extent in &plan.extents {
+        write!(
+            line,
+            " | {} {} {} {}",
+            extent.frame, extent.first_sector, extent.length, extent.disk_sector
+        )
+        .unwrap();
+    }
+    line
 }
 
 fn completed(answer: Result<Done, u32>) -> String {
@@ -96,7 +101,7 @@ fn completed(answer: Result<Done, u32>) -> String {
 
 /// A backend and the pages lent to it.
 struct Host {
-    backend: Backend,
+    backend: Both,
     rings: Vec<u8>,
     grants: Vec<u8>,
 }
@@ -134,14 +139,9 @@ impl Host {
             "f" | "F" => {
                 let length = if letter == "F" { words.next() } else { RINGS };
                 let (port, tag, serial) = (words.next(), words.next(), words.next());
-                let rings = &mut rings[..length];
-                Some(completed(backend.complete(
-                    rings,
-                    port,
-                    tag,
-                    serial,
-                    words.next(),
-                )))
+                let (rings, result) = (&mut rings[..length], words.next());
+                let done = backend.complete(rings, port, tag, serial, result);
+                Some(completed(done))
             }
             _ => Some(call.to_string()),
         }
@@ -151,7 +151,7 @@ impl Host {
 #[test]
 fn the_replayed_calls_answer_alike() {
     let mut host = Host {
-        backend: Backend::new(),
+        backend: Both::new(),
         rings: vec![0; RINGS],
         grants: vec![0; GRANTS],
     };

@@ -1,7 +1,7 @@
 //! Long random runs: the reference alone with the checker of demand 3 and the census, and the
 //! comparison of two programs.
 
-use kernelharp_host::generate::{list, run, Core, Generator, World};
+use kernelharp_host::generate::{list, run, Completion, Core, Generator, World};
 use kernelharp_host::reference::{Backend, DONE_WORDS, TURN_WORDS};
 
 const SEED: u64 = 0x6B65_726E_656C;
@@ -19,21 +19,6 @@ fn random_calls_keep_demand_3() {
     assert!(missing.is_empty(), "did not occur: {missing:#?}");
     // With eight ports busy at times, somebody waited for all the others.
     assert_eq!(report.longest_wait, 7);
-}
-
-/// For a longer look: `KH_SEED=7 KH_CALLS=5000000 cargo test --release -- --ignored --nocapture`.
-#[test]
-#[ignore = "as long as KH_CALLS says"]
-fn long_run_keeps_demand_3() {
-    let number = |name, usual| {
-        let set = std::env::var(name);
-        set.map_or(usual, |text| text.parse().expect("a number"))
-    };
-    let (seed, calls) = (number("KH_SEED", SEED), number("KH_CALLS", 1_000_000));
-    println!("seed {seed}, {calls} calls");
-    let begun = std::time::Instant::now();
-    let report = run(&mut [&mut Backend::new()], seed, calls).unwrap_or_else(|at| panic!("{at}"));
-    println!("{}{:?}", report.census, begun.elapsed());
 }
 
 #[test]
@@ -96,6 +81,8 @@ enum Flaw {
     Notify,
     /// A refused call touches its answer.
     Answer,
+    /// A refused close writes into its memory.
+    Memory,
     /// A closed port is closed once more without a word.
     Close,
     /// A sheet of a wrong shape is refused with another number.
@@ -105,6 +92,17 @@ enum Flaw {
 struct Flawed {
     backend: Backend,
     flaw: Flaw,
+    words: [u64; 1],
+}
+
+impl Flawed {
+    fn new(flaw: Flaw) -> Flawed {
+        Flawed {
+            backend: Backend::new(),
+            flaw,
+            words: [0],
+        }
+    }
 }
 
 impl Core for Flawed {
@@ -119,8 +117,16 @@ impl Core for Flawed {
     fn close(&mut self, port: u32) -> u32 {
         match (Core::close(&mut self.backend, port), self.flaw) {
             (4, Flaw::Close) => 0,
+            (4, Flaw::Memory) => {
+                self.words[0] += 1;
+                4
+            }
             (code, _) => code,
         }
+    }
+
+    fn memory(&self) -> &[u64] {
+        &self.words
     }
 
     fn turn(&mut self, rings: &mut [u8], grants: &[u8], answer: &mut [u64; TURN_WORDS]) -> u32 {
@@ -148,13 +154,10 @@ impl Core for Flawed {
     fn complete(
         &mut self,
         rings: &mut [u8],
-        port: u32,
-        tag: u32,
-        serial: u32,
-        result: i32,
+        named: Completion,
         answer: &mut [u64; DONE_WORDS],
     ) -> u32 {
-        let code = Core::complete(&mut self.backend, rings, port, tag, serial, result, answer);
+        let code = Core::complete(&mut self.backend, rings, named, answer);
         if matches!(self.flaw, Flaw::Notify) && code == 0 {
             answer[2] = 1;
         }
@@ -170,11 +173,11 @@ fn flawed_programs_are_found() {
         Flaw::Count,
         Flaw::Notify,
         Flaw::Answer,
+        Flaw::Memory,
         Flaw::Close,
         Flaw::Sheet,
     ] {
-        let backend = Backend::new();
-        let mut flawed = Flawed { backend, flaw };
+        let mut flawed = Flawed::new(flaw);
         let failure = run(&mut [&mut Backend::new(), &mut flawed], SEED, 20_000)
             .expect_err("a flawed program agrees with the reference");
         println!("{flaw:?}: {failure}");
@@ -183,9 +186,8 @@ fn flawed_programs_are_found() {
 
 #[test]
 fn flaws_against_demand_3_are_found_without_a_second_program() {
-    for flaw in [Flaw::Answer, Flaw::Close, Flaw::Sheet] {
-        let backend = Backend::new();
-        let mut flawed = Flawed { backend, flaw };
+    for flaw in [Flaw::Answer, Flaw::Memory, Flaw::Close, Flaw::Sheet] {
+        let mut flawed = Flawed::new(flaw);
         let failure =
             run(&mut [&mut flawed], SEED, 20_000).expect_err("a flawed program keeps demand 3");
         println!("{flaw:?}: {failure}");

@@ -1,4 +1,4 @@
-//! The papers' worked cases, read from their file and run through the reference.
+//! The papers' worked cases, read from their file and run through the reference and the archive.
 
 mod common;
 

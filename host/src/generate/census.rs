@@ -1,9 +1,15 @@
 //! Counts what occurred in a run, and tells what did not.
 
+mod classes;
+mod sheets;
+
+use self::classes::expected_classes;
+use self::sheets::sheet_fault;
+use super::{Buffer, Write};
 use crate::demand3::{Event, History, State};
 use crate::reference::{
-    page, read_sheet, read_u32, read_u64, slot_at, Disk, PORTS, PORT_GRANTS, REQ_PROD, RINGS_BYTES,
-    RSP_PROD, SLOT_BYTES,
+    page, read_sheet, read_u32, read_u64, slot_at, Disk, GRANTS_BYTES, HEADER_BYTES, PAGE_BYTES,
+    PORTS, PORT_GRANTS, REQ_EVENT, REQ_PROD, RINGS_BYTES, RSP_PROD, SLOTS, SLOT_BYTES,
 };
 use std::collections::{BTreeMap, HashSet};
 use std::fmt;
@@ -24,15 +30,6 @@ struct PortBooks {
     completed: HashSet<(u32, u32)>,
     completed_before: HashSet<(u32, u32)>,
 }
-
-/// The reasons that each operation can meet.
-const REASONS: [(u8, &[u64]); 5] = [
-    (0, &[25, 26, 27, 28, 29]),
-    (1, &[24, 25, 26, 27, 28, 29]),
-    (2, &[22, 24, 25, 26, 27, 28, 29]),
-    (3, &[22, 25]),
-    (5, &[22, 23, 24, 25, 28, 29]),
-];
 
 impl Census {
     /// Nothing counted yet.
@@ -92,16 +89,11 @@ impl Census {
                 if code == 0 {
                     self.note_turn(history, lent, grants, answer);
                 } else {
-                    self.tick(&format!("turn refused {code:02}"));
-                    let rings = lent.len() != RINGS_BYTES;
-                    self.tick(if rings {
-                        "turn refused 01, rings"
-                    } else {
-                        "turn refused 01, grants alone"
-                    });
+                    self.note_refused_turn(lent, grants, code);
                 }
             }
             Event::Complete {
+                lent,
                 left,
                 port,
                 tag,
@@ -113,9 +105,43 @@ impl Census {
                 if code == 0 {
                     self.note_completion(history, left, port as usize, (tag, serial), answer);
                 } else {
-                    self.note_refused_completion(history, port, (tag, serial), code);
+                    self.note_refused_completion(history, lent, port, (tag, serial), code);
                 }
             }
+        }
+    }
+
+    /// Counts what guests write before a call, with the rings as the last call left them.
+    pub fn note_writes(&mut self, history: &History, rings: &[u8], writes: &[Write]) {
+        for write in writes.iter().filter(|write| write.buffer == Buffer::Rings) {
+            self.tick("guest wrote between calls");
+            let (port, at) = (write.at / PAGE_BYTES, write.at % PAGE_BYTES);
+            self.tick_if(at == REQ_EVENT, "guest wrote req_event");
+            self.tick_if(at == RSP_PROD, "guest wrote rsp_prod");
+            if at < HEADER_BYTES || history.state(port) != State::Open {
+                continue;
+            }
+            let taken = history.taken(port) as u32;
+            let slots_after = |index: u32| {
+                let slots = (at - HEADER_BYTES) / SLOT_BYTES;
+                (slots as u32).wrapping_sub(index) % SLOTS as u32
+            };
+            let in_flight = history.unfinished(port);
+            let over = slots_after(taken.wrapping_sub(in_flight)) < in_flight;
+            self.tick_if(over, "guest wrote over a slot in flight");
+            let waiting = read_u32(page(rings, port), REQ_PROD).wrapping_sub(taken);
+            let over = slots_after(taken) < waiting && waiting <= SLOTS as u32 - in_flight;
+            self.tick_if(over, "guest wrote over a waiting request");
+        }
+    }
+
+    fn note_refused_turn(&mut self, lent: &[u8], grants: &[u8], code: u32) {
+        self.tick(&format!("turn refused {code:02}"));
+        let wrong = |bytes: &[u8], due| wrong_length(bytes.len(), due);
+        match (wrong(lent, RINGS_BYTES), wrong(grants, GRANTS_BYTES)) {
+            (Some(rings), None) => self.tick(&format!("turn refused 01, rings {rings}")),
+            (None, Some(grants)) => self.tick(&format!("turn refused 01, grants {grants}")),
+            _ => self.tick("turn refused 01, rings and grants"),
         }
     }
 
@@ -127,6 +153,9 @@ impl Census {
             }
             let broken = (port as usize) < PORTS && history.state(port as usize) == State::Broken;
             self.tick_if(broken && code == 3, "open refused 03, broken port");
+            if matches!(code, 2 | 3) && read_sheet(sheet).is_err() {
+                self.tick(&format!("open refused {code:02}, sheet damaged too"));
+            }
             return;
         }
         self.tick("open done");
@@ -304,11 +333,16 @@ impl Census {
     fn note_refused_completion(
         &mut self,
         history: &History,
+        lent: &[u8],
         port: u32,
         named: (u32, u32),
         code: u32,
     ) {
         self.tick(&format!("complete refused {code:02}"));
+        if let Some(rings) = wrong_length(lent.len(), RINGS_BYTES) {
+            self.tick(&format!("complete refused 01, rings {rings}"));
+            self.tick_if(port > 7, "complete refused 01, port above 7 too");
+        }
         if code != 6 {
             return;
         }
@@ -337,215 +371,12 @@ impl fmt::Display for Census {
     }
 }
 
-/// A closer word on some refused sheets.
-fn sheet_fault(sheet: &[u8], code: u32) -> Option<&'static str> {
-    let first = sheet.first().copied();
-    match code {
-        11 if first.is_none() => Some("sheet empty"),
-        11 if first > Some(9) => Some("sheet of more than 9 entries"),
-        11 => Some(length_fault(sheet)),
-        12 => {
-            let nodes: Vec<u8> = nodes(sheet);
-            if nodes.contains(&0) {
-                Some("sheet with node 0")
-            } else if nodes.iter().any(|&node| node > 9) {
-                Some("sheet with a node above 9")
-            } else if nodes.windows(2).any(|pair| pair[0] == pair[1]) {
-                Some("sheet with a node twice")
-            } else {
-                Some("sheet with falling nodes")
-            }
-        }
-        13 | 14 => body_fault(sheet, code),
-        15 => {
-            let nodes = nodes(sheet);
-            [
-                (1, "sheet without node 1"),
-                (6, "sheet without node 6"),
-                (7, "sheet without node 7"),
-            ]
-            .iter()
-            .find(|(node, _)| !nodes.contains(node))
-            .map(|&(_, class)| class)
-        }
+/// How a length differs from the due one.
+fn wrong_length(bytes: usize, due: usize) -> Option<&'static str> {
+    match bytes {
+        0 => Some("empty"),
+        _ if bytes < due => Some("short"),
+        _ if bytes > due => Some("long"),
         _ => None,
     }
 }
-
-fn nodes(sheet: &[u8]) -> Vec<u8> {
-    let table = &sheet[1..];
-    table
-        .chunks(4)
-        .take(usize::from(sheet[0]))
-        .map(|line| line[0])
-        .collect()
-}
-
-fn length_fault(sheet: &[u8]) -> &'static str {
-    let entries = usize::from(sheet[0]);
-    if sheet.len() < 1 + 4 * entries {
-        return "sheet cut within its table";
-    }
-    let table = &sheet[1..1 + 4 * entries];
-    if table.chunks(4).any(|line| line[1] != 0) {
-        return "sheet with a reserved byte";
-    }
-    let bodies: usize = table
-        .chunks(4)
-        .map(|line| usize::from(line[2]) + 256 * usize::from(line[3]))
-        .sum();
-    if sheet.len() < 1 + 4 * entries + bodies {
-        "sheet cut within its bodies"
-    } else {
-        "sheet with bytes after its bodies"
-    }
-}
-
-/// Which body a sheet was refused for: the first that is refused so in a sheet of its own.
-fn body_fault(sheet: &[u8], code: u32) -> Option<&'static str> {
-    let entries = usize::from(sheet[0]);
-    let (table, mut bodies) = sheet[1..].split_at(4 * entries);
-    for line in table.chunks(4) {
-        let length = usize::from(line[2]) + 256 * usize::from(line[3]);
-        let (body, rest) = bodies.split_at(length);
-        bodies = rest;
-        let mut alone = vec![1];
-        alone.extend_from_slice(line);
-        alone.extend_from_slice(body);
-        let at_fault = read_sheet(&alone).is_err_and(|refusal| u32::from(refusal) == code);
-        if at_fault {
-            let names = if code == 13 { &BODIES_13 } else { &BODIES_14 };
-            return Some(names[usize::from(line[0]) - 1]);
-        }
-    }
-    None
-}
-
-const BODIES_13: [&str; 9] = [
-    "sheet refused 13, node 1",
-    "sheet refused 13, node 2",
-    "sheet refused 13, node 3",
-    "sheet refused 13, node 4",
-    "sheet refused 13, node 5",
-    "sheet refused 13, node 6",
-    "sheet refused 13, node 7",
-    "sheet refused 13, node 8",
-    "sheet refused 13, node 9",
-];
-
-const BODIES_14: [&str; 9] = [
-    "",
-    "",
-    "",
-    "",
-    "",
-    "sheet refused 14, node 6",
-    "sheet refused 14, node 7",
-    "",
-    "sheet refused 14, node 9",
-];
-
-/// Every class that a long run should show.
-fn expected_classes() -> Vec<String> {
-    let mut classes: Vec<String> = PLAIN_CLASSES.iter().map(|&name| name.into()).collect();
-    for number in [2, 3, 11, 12, 13, 14, 15] {
-        classes.push(format!("open refused {number:02}"));
-    }
-    for number in [2, 4, 5] {
-        classes.push(format!("close refused {number:02}"));
-    }
-    for number in [1, 2, 4, 6] {
-        classes.push(format!("complete refused {number:02}"));
-    }
-    for size in [512, 1024, 2048, 4096] {
-        classes.push(format!("open done, sector-size {size}"));
-    }
-    for (operation, reasons) in REASONS {
-        classes.push(format!("started, operation {operation}"));
-        classes.push(format!("completed, operation {operation}"));
-        for reason in reasons {
-            classes.push(format!("answered {reason}, operation {operation}"));
-        }
-    }
-    classes.extend((21..=29).map(|reason| format!("answered {reason}")));
-    let bodies = BODIES_13.iter().chain(&BODIES_14);
-    classes.extend(
-        bodies
-            .filter(|name| !name.is_empty())
-            .map(|&name| name.into()),
-    );
-    classes
-}
-
-const PLAIN_CLASSES: &[&str] = &[
-    "answered",
-    "answered 21, operation 4",
-    "answered 27, a frame above 1023",
-    "answered 27, every frame granted for reading",
-    "answered 28, around 2^64",
-    "answered, notify no",
-    "answered, notify yes",
-    "answered, status -1",
-    "answered, status -2",
-    "close done",
-    "close done, broken port",
-    "complete refused 06, another serial",
-    "complete refused 06, doubled",
-    "complete refused 06, of an earlier opening",
-    "complete refused 06, tag above 31",
-    "complete refused 06, tag not busy",
-    "completed",
-    "completed, broken port",
-    "completed, named in an earlier opening too",
-    "completed, notify no",
-    "completed, notify yes",
-    "completed, status -0",
-    "completed, status -1",
-    "completed, status -2",
-    "idle",
-    "idle, 32 in flight on an open port",
-    "idle, some port broken",
-    "idle, some port open",
-    "open done",
-    "open done, 0 sectors",
-    "open done, 2^64 - 1 sectors",
-    "open done, mode r",
-    "open done, mode w",
-    "open done, reopened",
-    "open refused 03, broken port",
-    "overrun",
-    "overrun, 32 in flight",
-    "overrun, behind",
-    "overrun, by one",
-    "overrun, far ahead",
-    "overrun, some in flight",
-    "served at the line",
-    "served beyond request 1000",
-    "served beyond slot 31",
-    "served with 31 in flight",
-    "sheet cut within its bodies",
-    "sheet cut within its table",
-    "sheet empty",
-    "sheet of more than 9 entries",
-    "sheet with a node above 9",
-    "sheet with a node twice",
-    "sheet with a reserved byte",
-    "sheet with bytes after its bodies",
-    "sheet with falling nodes",
-    "sheet with node 0",
-    "sheet without node 1",
-    "sheet without node 6",
-    "sheet without node 7",
-    "started",
-    "started, 11 extents",
-    "started, empty barrier",
-    "started, frame 1023",
-    "started, secure discard",
-    "started, tag 31",
-    "started, tag come back",
-    "started, total aligned though an extent is not",
-    "started, up to the last sector",
-    "turn refused 01",
-    "turn refused 01, grants alone",
-    "turn refused 01, rings",
-];

@@ -161,7 +161,12 @@ fn spoil_text(random: &mut Random, entries: &mut Vec<Entry>) {
 /// For refusal 14: a number that the node does not allow, of any size.
 fn spoil_number(random: &mut Random, entries: &mut Vec<Entry>) {
     let node = random.pick(&[6u8, 7, 9]);
-    let digits = 21 + random.index(400);
+    // Now and then as long as a body can be.
+    let digits = if random.chance(2) {
+        usize::from(u16::MAX)
+    } else {
+        21 + random.index(400)
+    };
     let long_number: String = "9".repeat(digits);
     // 2^128 + 512, 2^64 + 512: right again if a reader counts modulo a power of two.
     let texts: &[&str] = match node {

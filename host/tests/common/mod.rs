@@ -1,10 +1,14 @@
-//! What the tests build: sheets, requests, and a bench with a backend and its buffers.
+//! What the tests build: sheets, requests, and a bench with both programs and their buffers.
 
 #![allow(dead_code)]
 
+mod both;
+
+pub use both::Both;
+
 use kernelharp_host::reference::{
-    page, slot_at, Backend, Done, Plan, Reason, Turned, GRANTS_BYTES, PAGE_BYTES, PORT_GRANTS,
-    REQ_PROD, RINGS_BYTES, SLOT_BYTES,
+    page, slot_at, Done, Plan, Reason, Turned, GRANTS_BYTES, PAGE_BYTES, PORT_GRANTS, REQ_PROD,
+    RINGS_BYTES, SLOT_BYTES,
 };
 
 /// A sheet of entries, with the table of contents that belongs to them.
@@ -96,7 +100,7 @@ impl Ask {
 /// A backend with its buffers; the guests' own req_prod per port.
 #[derive(Clone)]
 pub struct Bench {
-    pub backend: Backend,
+    pub backend: Both,
     pub rings: Vec<u8>,
     pub grants: Vec<u8>,
     produced: [u32; 8],
@@ -106,7 +110,7 @@ impl Bench {
     /// An empty backend; every frame may be read and written.
     pub fn new() -> Bench {
         Bench {
-            backend: Backend::new(),
+            backend: Both::new(),
             rings: vec![0; RINGS_BYTES],
             grants: vec![2; GRANTS_BYTES],
             produced: [0; 8],
