@@ -1,0 +1,71 @@
+#include "bench.h"
+
+#include <stdarg.h>
+#include <stdio.h>
+#include <stdlib.h>
+#include <string.h>
+#include <sys/mman.h>
+
+/* Far from where a heap begins, with or without valgrind. lackey.awk has these numbers too. */
+#define MARKERS_AT   0x100000000
+#define RINGS_AT     0x100002000
+#define MAPPED_BYTES (RINGS_AT - MARKERS_AT + KH_RINGS_BYTES + PAGE_BYTES)
+
+struct bench bench;
+uint8_t *const rings = (uint8_t *)RINGS_AT;
+volatile uint64_t *const markers = (volatile uint64_t *)MARKERS_AT;
+const struct backend archive = {kh_turn, kh_complete};
+
+_Noreturn void fail(const char *format, ...) {
+    va_list words;
+    va_start(words, format);
+    vfprintf(stderr, format, words);
+    va_end(words);
+    fputc('\n', stderr);
+    exit(2);
+}
+
+/* A page that nobody may touch lies on each side of the rings. */
+void map_buffers(void) {
+    int flags = MAP_PRIVATE | MAP_ANONYMOUS | MAP_FIXED_NOREPLACE;
+    void *all = mmap((void *)MARKERS_AT, MAPPED_BYTES, PROT_NONE, flags, -1, 0);
+    if (all != (void *)MARKERS_AT)
+        fail("no room for the rings at their fixed address");
+    if (mprotect(all, PAGE_BYTES, PROT_READ | PROT_WRITE) != 0)
+        fail("mprotect of the markers");
+    if (mprotect(rings, KH_RINGS_BYTES, PROT_READ | PROT_WRITE) != 0)
+        fail("mprotect of the rings");
+    if (kh_memory_words() != KH_MEMORY_WORDS)
+        fail("the archive asks for %u words of memory", kh_memory_words());
+}
+
+void call_backend(const struct backend *backend, const struct call *call, uint8_t *lent, struct outcome *outcome) {
+    if (call->completes)
+        outcome->refusal = backend->complete(bench.memory, lent, call->rings_bytes, call->port, call->tag, call->serial,
+                                             call->result, outcome->answer);
+    else
+        outcome->refusal =
+            backend->turn(bench.memory, lent, call->rings_bytes, bench.grants, call->grants_bytes, outcome->answer);
+}
+
+uint32_t load32(const uint8_t *from) {
+    uint32_t value;
+    memcpy(&value, from, sizeof value);
+    return value;
+}
+
+void store32(uint8_t *to, uint32_t value) {
+    memcpy(to, &value, sizeof value);
+}
+
+void store64(uint8_t *to, uint64_t value) {
+    memcpy(to, &value, sizeof value);
+}
+
+unsigned header_at(unsigned port, unsigned field) {
+    return PAGE_BYTES * port + field;
+}
+
+unsigned slot_at(unsigned port, uint32_t index) {
+    return PAGE_BYTES * port + FIRST_SLOT + SLOT_BYTES * (index % SLOTS);
+}

@@ -1,0 +1,71 @@
+/* A backend with its lent buffers, one call of it, and the book that the test keeps of the ports by itself. */
+#ifndef ONCE_BENCH_H
+#define ONCE_BENCH_H
+
+#include <stdbool.h>
+
+#include <kernelharp.h>
+
+enum { PORTS = 8, SLOTS = 32, PAGE_BYTES = 4096, SLOT_BYTES = 112, RESPONSE_BYTES = 16, INDEX_BYTES = 4 };
+enum { REQ_PROD = 0, REQ_EVENT = 4, RSP_PROD = 8, RSP_EVENT = 12, FIRST_SLOT = 64 };
+
+enum state { CLOSED, OPEN, BROKEN };
+
+/* What the turn's answers tell of a port: document 01's C and R among it. */
+struct book {
+    enum state state;
+    uint32_t taken, answered;
+};
+
+struct bench {
+    uint64_t memory[KH_MEMORY_WORDS];
+    uint8_t grants[KH_GRANTS_BYTES];
+    struct book ports[PORTS];
+    unsigned pointer;
+};
+
+extern struct bench bench;
+
+/* The ring buffer lies at a fixed address, so that two traces of it can be compared. */
+extern uint8_t *const rings;
+
+/* A store to the first word says that a call begins, to the second that it has ended: seen in a trace. */
+extern volatile uint64_t *const markers;
+
+/* IDLE to OVERRUN are the numbers of a turn's answer. */
+enum kind { IDLE, STARTED, ANSWERED, OVERRUN, COMPLETED };
+
+struct call {
+    bool completes;
+    size_t rings_bytes, grants_bytes;
+    uint32_t port, tag, serial;
+    int32_t result;
+};
+
+struct outcome {
+    uint32_t refusal;
+    uint64_t answer[KH_TURN_WORDS];
+};
+
+/* What is called: the archive, or a stand-in for it. */
+struct backend {
+    uint32_t (*turn)(uint64_t *, uint8_t *, size_t, const uint8_t *, size_t, uint64_t *);
+    uint32_t (*complete)(uint64_t *, uint8_t *, size_t, uint32_t, uint32_t, uint32_t, int32_t, uint64_t *);
+};
+
+extern const struct backend archive;
+
+void map_buffers(void);
+void call_backend(const struct backend *backend, const struct call *call, uint8_t *lent, struct outcome *outcome);
+
+uint32_t load32(const uint8_t *from);
+void store32(uint8_t *to, uint32_t value);
+void store64(uint8_t *to, uint64_t value);
+
+/* Places in the ring buffer. */
+unsigned header_at(unsigned port, unsigned field);
+unsigned slot_at(unsigned port, uint32_t index);
+
+_Noreturn void fail(const char *format, ...) __attribute__((format(printf, 1, 2)));
+
+#endif

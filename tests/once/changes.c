@@ -1,0 +1,65 @@
+#include "changes.h"
+
+#include <string.h>
+
+#include "requests.h"
+
+static void move_index(const char *name, unsigned port, unsigned field, uint32_t value, changer *with) {
+    uint8_t bytes[INDEX_BYTES];
+    store32(bytes, value);
+    struct change change = {name, header_at(port, field), sizeof bytes, true, bytes};
+    with(&change);
+}
+
+/* Of the port that is looked at most: nothing to serve, one or two requests, as many as may be, one too many, and one
+   behind. Of the others: one request or too many, whether anybody may look there or not. */
+static void move_req_prod(unsigned port, changer *with) {
+    static const uint32_t distances[] = {1, SLOTS + 1, 0, 2, SLOTS, UINT32_MAX};
+    for (unsigned k = 0; k < PORTS; k++)
+        for (unsigned i = 0; i < (k == port ? 6 : 2); i++)
+            move_index("req_prod", k, REQ_PROD, bench.ports[k].taken + distances[i], with);
+}
+
+static void move_others(unsigned port, changer *with) {
+    uint32_t answered = bench.ports[port].answered;
+    for (uint32_t step = 0; step < 3; step++)
+        move_index("rsp_event", port, RSP_EVENT, answered + step, with);
+    move_index("rsp_prod", port, RSP_PROD, answered + 7, with);
+    move_index("req_event", port, REQ_EVENT, answered + 7, with);
+}
+
+/* Every third request of the list in the place of the one that is there, with another id; the next scenario begins at
+ * the next request. */
+static void replace_slot(unsigned port, changer *with) {
+    enum { STEP = 3 };
+    static unsigned first;
+    uint32_t index = bench.ports[port].taken;
+    unsigned at = slot_at(port, index);
+    uint8_t bytes[SLOT_BYTES];
+    first = (first + 1) % STEP;
+    for (unsigned i = first; i < request_count; i += STEP) {
+        memcpy(bytes, rings + at, sizeof bytes);
+        write_request(bytes, index + 1, &requests[i]);
+        struct change change = {"slot", at, sizeof bytes, false, bytes};
+        with(&change);
+    }
+}
+
+static void flip(const char *name, unsigned at, unsigned size, changer *with) {
+    static uint8_t bytes[KH_RINGS_BYTES];
+    for (unsigned i = 0; i < size; i++)
+        bytes[i] = rings[at + i] ^ 0xFF;
+    struct change change = {name, at, size, false, bytes};
+    with(&change);
+}
+
+void each_change(const struct scenario *scenario, changer *with) {
+    unsigned port = scenario->expect.port;
+    move_req_prod(port, with);
+    move_others(port, with);
+    if (scenario->expect.kind == STARTED || scenario->expect.kind == ANSWERED)
+        replace_slot(port, with);
+    flip("slot flipped", slot_at(port, bench.ports[port].taken), SLOT_BYTES, with);
+    flip("page flipped", PAGE_BYTES * port, PAGE_BYTES, with);
+    flip("all rings flipped", 0, KH_RINGS_BYTES, with);
+}

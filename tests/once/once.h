@@ -1,0 +1,19 @@
+/* The checks of this test, over the scenarios. Each answers the number of faults. */
+#ifndef ONCE_ONCE_H
+#define ONCE_ONCE_H
+
+#include "bench.h"
+
+/* Every access of every call against the rules; for a stand-in, of the samples. */
+unsigned check_accesses(const struct backend *backend);
+
+/* Guest bytes changed before each access of the samples: of those whose names begin with `only`. */
+unsigned check_changes(const struct backend *backend, const char *only);
+
+/* The accesses of the archive's samples, in the words of valgrind's lackey. */
+void list_accesses(void);
+
+/* The samples with no trap, between stores to the markers, for another tracer. */
+void run_plainly(void);
+
+#endif

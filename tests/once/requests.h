@@ -1,0 +1,43 @@
+/* Requests of every kind, with what document 01 says of each, and the node sheets of the disks that they go to. */
+#ifndef ONCE_REQUESTS_H
+#define ONCE_REQUESTS_H
+
+#include "bench.h"
+
+enum { READ = 0, WRITE = 1, BARRIER = 2, FLUSH = 3, DISCARD = 5 };
+
+struct disk {
+    const char *mode, *barrier, *flush, *discard, *secure, *sector_size, *sectors;
+};
+
+struct segment {
+    uint32_t frame;
+    uint8_t first, last;
+};
+
+/* The first segments of a request are whole frames that may be read and written; the last one is given. A discard has
+ * `sectors` in their place. */
+struct request {
+    const char *name;
+    const struct disk *disk;
+    uint8_t operation, n; /* n is the flag of a discard */
+    uint64_t start;
+    struct segment last;
+    uint64_t sectors;
+    uint32_t reason, status; /* 0 where it starts */
+    int32_t due;             /* the result that a started one is to be completed with */
+};
+
+extern const struct request requests[];
+extern const unsigned request_count;
+
+/* A request that is answered at once, and one that starts, on any disk. */
+extern const struct request dummy, held;
+
+void grant_frames(void);
+void open_port(unsigned port, const struct disk *disk);
+void put_request(unsigned port, uint32_t index, const struct request *request);
+/* The 112 bytes of a request, its id made from the index. */
+void write_request(uint8_t *slot, uint32_t index, const struct request *request);
+
+#endif

@@ -1,0 +1,117 @@
+#include "rules.h"
+
+#include <stdio.h>
+#include <string.h>
+
+struct named {
+    bool load[KH_RINGS_BYTES], store[KH_RINGS_BYTES];
+};
+
+static void name_bytes(bool *marks, unsigned at, unsigned bytes) {
+    memset(marks + at, true, bytes);
+}
+
+static void name_response(struct named *named, unsigned port) {
+    name_bytes(named->load, header_at(port, RSP_EVENT), INDEX_BYTES);
+    name_bytes(named->store, slot_at(port, bench.ports[port].answered), RESPONSE_BYTES);
+    name_bytes(named->store, header_at(port, RSP_PROD), INDEX_BYTES);
+}
+
+/* The turn looks at the ports from the pointer on, and no further than the one it serves. */
+static void name_look(struct named *named, const struct expect *expect) {
+    for (unsigned i = 0; i < PORTS; i++) {
+        unsigned k = (bench.pointer + i) % PORTS;
+        if (bench.ports[k].state == OPEN)
+            name_bytes(named->load, header_at(k, REQ_PROD), INDEX_BYTES);
+        if (expect->kind != IDLE && k == expect->port)
+            break;
+    }
+}
+
+static void name_armed(struct named *named) {
+    for (unsigned k = 0; k < PORTS; k++)
+        if (bench.ports[k].state == OPEN)
+            name_bytes(named->store, header_at(k, REQ_EVENT), INDEX_BYTES);
+}
+
+/* By the book as it stands before the call. */
+static void name_all(struct named *named, const struct expect *expect) {
+    memset(named, 0, sizeof *named);
+    if (expect->refusal)
+        return;
+    if (expect->kind != COMPLETED)
+        name_look(named, expect);
+    if (expect->kind == IDLE)
+        name_armed(named);
+    if (expect->kind == STARTED || expect->kind == ANSWERED)
+        name_bytes(named->load, slot_at(expect->port, bench.ports[expect->port].taken), SLOT_BYTES);
+    if (expect->kind == ANSWERED || expect->kind == COMPLETED)
+        name_response(named, expect->port);
+}
+
+const char *place_name(unsigned at) {
+    static const char *const header[] = {"req_prod", "req_event", "rsp_prod", "rsp_event"};
+    static char name[64];
+    unsigned port = at / PAGE_BYTES, in_page = at % PAGE_BYTES;
+    if (in_page < 16)
+        snprintf(name, sizeof name, "port %u, %s, byte %u", port, header[in_page / 4], in_page % 4);
+    else if (in_page >= FIRST_SLOT && in_page < FIRST_SLOT + SLOTS * SLOT_BYTES)
+        snprintf(name, sizeof name, "port %u, slot %u, byte %u", port, (in_page - FIRST_SLOT) / SLOT_BYTES,
+                 (in_page - FIRST_SLOT) % SLOT_BYTES);
+    else
+        snprintf(name, sizeof name, "port %u, page byte %u", port, in_page);
+    return name;
+}
+
+static unsigned fault(const struct scenario *scenario, const struct access *access, unsigned at, const char *what) {
+    fprintf(stderr, "%s: %s: %s, by the instruction at %#lx (%u bytes)\n", scenario->name, what, place_name(at),
+            (unsigned long)access->instruction, access->size);
+    return 1;
+}
+
+/* The first byte of an access that is at fault settles it. */
+static unsigned judge_access(const struct scenario *scenario, const struct access *access, const struct named *named,
+                             struct named *seen) {
+    for (unsigned at = access->at; at < access->at + access->size; at++) {
+        if (access->load && !named->load[at])
+            return fault(scenario, access, at, "loaded but not named");
+        if (access->load && seen->load[at])
+            return fault(scenario, access, at, "loaded twice");
+        if (access->store && !named->store[at])
+            return fault(scenario, access, at, "stored but not named");
+        if (access->store && seen->store[at])
+            return fault(scenario, access, at, "stored twice");
+        seen->load[at] |= access->load;
+        seen->store[at] |= access->store;
+    }
+    return 0;
+}
+
+unsigned judge(const struct scenario *scenario, const struct trace *trace) {
+    static struct named named, seen;
+    unsigned faults = 0;
+    name_all(&named, &scenario->expect);
+    memset(&seen, 0, sizeof seen);
+    for (unsigned i = 0; i < trace->count; i++)
+        faults += judge_access(scenario, &trace->list[i], &named, &seen);
+    return faults;
+}
+
+static bool is_completed(const struct expect *expect, const uint64_t *answer) {
+    return answer[0] == expect->port && answer[1] == expect->status && answer[2] == expect->notify;
+}
+
+bool is_expected(const struct scenario *scenario, const struct outcome *outcome) {
+    const struct expect *expect = &scenario->expect;
+    const uint64_t *answer = outcome->answer;
+    if (outcome->refusal != expect->refusal)
+        return false;
+    if (expect->refusal)
+        return true;
+    if (expect->kind == COMPLETED)
+        return is_completed(expect, answer);
+    if (answer[0] != expect->kind || answer[1] != expect->port)
+        return false;
+    return expect->kind != ANSWERED ||
+           (answer[9] == expect->reason && answer[10] == expect->status && answer[11] == expect->notify);
+}

@@ -1,0 +1,27 @@
+/* The calls to look at: each is made ready and handed to a visitor, with what document 01 says of its outcome. */
+#ifndef ONCE_SCENARIOS_H
+#define ONCE_SCENARIOS_H
+
+#include "bench.h"
+
+struct expect {
+    uint32_t refusal;
+    enum kind kind;
+    uint32_t port, reason, status;
+    bool notify;
+};
+
+/* Scenarios of one name come one after the other; the first is the sample of its name. */
+struct scenario {
+    const char *name;
+    bool sample;
+    struct call call;
+    struct expect expect;
+};
+
+typedef void visitor(const struct scenario *scenario);
+
+/* All of them, or the samples alone. */
+void each_scenario(visitor *visit, bool samples);
+
+#endif

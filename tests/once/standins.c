@@ -1,0 +1,202 @@
+#include "standins.h"
+
+#include <string.h>
+
+/* One fault each. The first has none, and must pass. */
+enum fault {
+    NO_FAULT,
+    REQ_PROD_TWICE,
+    REQ_PROD_BY_BYTES,
+    LOOKS_FURTHER,
+    SLOT_OVERLAP,
+    SLOT_TOO_FAR,
+    SLOT_BY_LIBRARY,
+    SECOND_LOOK,
+    RSP_EVENT_TWICE,
+    RSP_EVENT_ALWAYS,
+    RSP_PROD_READ,
+    BYTE_TOO_MANY,
+    RSP_PROD_STORED_TWICE,
+    ARMED_ON_SERVICE,
+};
+
+static const char *const names[] = {
+    [NO_FAULT] = "no-fault",
+    [REQ_PROD_TWICE] = "req-prod-twice",
+    [REQ_PROD_BY_BYTES] = "req-prod-by-bytes",
+    [LOOKS_FURTHER] = "looks-further",
+    [SLOT_OVERLAP] = "slot-overlap",
+    [SLOT_TOO_FAR] = "slot-too-far",
+    [SLOT_BY_LIBRARY] = "slot-by-library",
+    [SECOND_LOOK] = "second-look",
+    [RSP_EVENT_TWICE] = "rsp-event-twice",
+    [RSP_EVENT_ALWAYS] = "rsp-event-always",
+    [RSP_PROD_READ] = "rsp-prod-read",
+    [BYTE_TOO_MANY] = "byte-too-many",
+    [RSP_PROD_STORED_TWICE] = "rsp-prod-stored-twice",
+    [ARMED_ON_SERVICE] = "armed-on-service",
+};
+
+static enum fault fault;
+
+/* The call is made on a copy of what was looked at; then what it wrote goes to the rings. */
+static uint8_t copy[KH_RINGS_BYTES];
+static uint8_t *live;
+
+static void take_byte(unsigned at) {
+    copy[at] = *(volatile uint8_t *)(live + at);
+}
+
+static void take32(unsigned at) {
+    store32(copy + at, *(volatile uint32_t *)(live + at));
+}
+
+static void give_byte(unsigned at) {
+    *(volatile uint8_t *)(live + at) = copy[at];
+}
+
+static void give32(unsigned at) {
+    *(volatile uint32_t *)(live + at) = load32(copy + at);
+}
+
+static void take_req_prod(unsigned port) {
+    unsigned at = header_at(port, REQ_PROD);
+    if (fault == REQ_PROD_BY_BYTES) {
+        for (unsigned i = 0; i < INDEX_BYTES; i++)
+            take_byte(at + i);
+        return;
+    }
+    take32(at);
+    if (fault == REQ_PROD_TWICE)
+        take32(at);
+}
+
+/* The port that has something to serve, or PORTS. */
+static unsigned look(void) {
+    for (unsigned i = 0; i < PORTS; i++) {
+        unsigned k = (bench.pointer + i) % PORTS;
+        if (bench.ports[k].state != OPEN)
+            continue;
+        take_req_prod(k);
+        if (load32(copy + header_at(k, REQ_PROD)) != bench.ports[k].taken)
+            return k;
+    }
+    return PORTS;
+}
+
+static void take_slot(unsigned port) {
+    static void *(*volatile library_copy)(void *, const void *, size_t) = memcpy;
+    unsigned at = slot_at(port, bench.ports[port].taken);
+    if (fault == SLOT_BY_LIBRARY)
+        library_copy(copy + at, live + at, SLOT_BYTES);
+    for (unsigned i = 0; i < SLOT_BYTES; i += 4)
+        take32(at + i);
+    if (fault == SLOT_OVERLAP)
+        take32(at + 26);
+    if (fault == SLOT_TOO_FAR)
+        take_byte(at + SLOT_BYTES);
+    if (fault == LOOKS_FURTHER)
+        take32(header_at((port + 1) % PORTS, REQ_PROD));
+}
+
+static bool waits(unsigned port) {
+    const struct book *book = &bench.ports[port];
+    uint32_t distance = load32(copy + header_at(port, REQ_PROD)) - book->taken;
+    return distance + (uint64_t)(book->taken - book->answered) <= SLOTS;
+}
+
+static void take_rsp_event(unsigned port) {
+    take32(header_at(port, RSP_EVENT));
+    if (fault == RSP_EVENT_TWICE)
+        take32(header_at(port, RSP_EVENT));
+    if (fault == RSP_PROD_READ)
+        take32(header_at(port, RSP_PROD));
+}
+
+static void give_response(unsigned port) {
+    unsigned at = slot_at(port, bench.ports[port].answered);
+    for (unsigned i = 0; i < RESPONSE_BYTES; i += 4)
+        give32(at + i);
+    if (fault == BYTE_TOO_MANY)
+        give_byte(at + RESPONSE_BYTES);
+    give32(header_at(port, RSP_PROD));
+    if (fault == RSP_PROD_STORED_TWICE)
+        give32(header_at(port, RSP_PROD));
+}
+
+/* The old worker's: judged by one look at the slot, done by another. */
+static void look_again(unsigned port, uint64_t *answer) {
+    unsigned at = slot_at(port, bench.ports[port].taken) + 24;
+    for (unsigned i = 0; i < answer[8]; i++) {
+        take32(at + 8 * i);
+        answer[16 + 4 * i] = load32(copy + at + 8 * i);
+    }
+}
+
+static void end_turn(unsigned port, uint64_t *answer) {
+    if (answer[0] == IDLE)
+        for (unsigned k = 0; k < PORTS; k++)
+            if (bench.ports[k].state == OPEN)
+                give32(header_at(k, REQ_EVENT));
+    if (answer[0] == ANSWERED)
+        give_response(port);
+    if (answer[0] == STARTED && fault == SECOND_LOOK)
+        look_again(port, answer);
+    if (answer[0] == STARTED && fault == RSP_EVENT_ALWAYS)
+        take_rsp_event(port);
+    if (answer[0] == STARTED && fault == ARMED_ON_SERVICE)
+        give32(header_at(port, REQ_EVENT));
+}
+
+/* A call on copies, to see whether it would give a response: only then may rsp_event be looked at. */
+static struct {
+    uint64_t memory[KH_MEMORY_WORDS];
+    uint8_t rings[KH_RINGS_BYTES];
+} trial;
+
+static void copy_for_trial(const uint64_t *memory) {
+    memcpy(trial.memory, memory, sizeof trial.memory);
+    memcpy(trial.rings, copy, sizeof trial.rings);
+}
+
+static uint32_t turn(uint64_t *memory, uint8_t *lent, size_t rings_bytes, const uint8_t *grants, size_t grants_bytes,
+                     uint64_t *answer) {
+    if (rings_bytes != KH_RINGS_BYTES || grants_bytes != KH_GRANTS_BYTES)
+        return kh_turn(memory, copy, rings_bytes, grants, grants_bytes, answer);
+    live = lent;
+    unsigned port = look();
+    if (port != PORTS && waits(port))
+        take_slot(port);
+    copy_for_trial(memory);
+    kh_turn(trial.memory, trial.rings, rings_bytes, grants, grants_bytes, answer);
+    if (answer[0] == ANSWERED)
+        take_rsp_event(port);
+    uint32_t refusal = kh_turn(memory, copy, rings_bytes, grants, grants_bytes, answer);
+    end_turn(port, answer);
+    return refusal;
+}
+
+static uint32_t complete(uint64_t *memory, uint8_t *lent, size_t rings_bytes, uint32_t port, uint32_t tag,
+                         uint32_t serial, int32_t result, uint64_t *answer) {
+    live = lent;
+    copy_for_trial(memory);
+    uint32_t refusal = kh_complete(trial.memory, trial.rings, rings_bytes, port, tag, serial, result, answer);
+    if (refusal != 0)
+        return refusal;
+    take_rsp_event(port);
+    kh_complete(memory, copy, rings_bytes, port, tag, serial, result, answer);
+    give_response(port);
+    return 0;
+}
+
+const struct backend *backend_named(const char *name) {
+    static const struct backend standin = {turn, complete};
+    if (!name)
+        return &archive;
+    for (unsigned i = 0; i < sizeof names / sizeof *names; i++)
+        if (strcmp(name, names[i]) == 0) {
+            fault = i;
+            return &standin;
+        }
+    fail("no stand-in is called %s", name);
+}

@@ -1,0 +1,30 @@
+/* Every access to the rings, trapped: the pages are out of reach during a call, and each instruction that asks for them
+ * is let through alone. */
+#ifndef ONCE_TRAP_H
+#define ONCE_TRAP_H
+
+#include <stdbool.h>
+#include <stdint.h>
+
+enum { MOST_ACCESSES = 512, WIDEST = 16 };
+
+struct access {
+    uintptr_t instruction;
+    unsigned at, size;
+    bool load, store;
+    uint8_t loaded[WIDEST], stored[WIDEST];
+};
+
+struct trace {
+    unsigned count;
+    struct access list[MOST_ACCESSES];
+};
+
+/* Called with the number of an access, from 0, just before it. It may write the rings. */
+typedef void meddler(unsigned number);
+
+void trap_install(void);
+void trap_begin(struct trace *trace, meddler *meddle);
+void trap_end(void);
+
+#endif
