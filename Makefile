@@ -1,3 +1,8 @@
+# make demo: a host with eight simulated guests on disk images in a temporary folder, one of them hostile.
+.PHONY: demo
+demo:
+	@cargo run --release --quiet --manifest-path host/Cargo.toml --bin demo
+
 # make test: every check, proof and test. Its last line is the verdict.
 .PHONY: test
 test:

@@ -43,8 +43,8 @@ impl SharedPage {
     /// # Safety
     ///
     /// As long as the value lives, `page` points to 4,096 bytes, aligned to 8, that may be read and
-    /// written; this program has no reference to any of them; and where a thread of this program
-    /// plays the guest, it too goes by volatile or atomic accesses.
+    /// written; this program has no reference to any of them but to atomics; and where a thread of
+    /// this program plays the guest, it too goes by volatile or atomic accesses.
     pub unsafe fn new(page: NonNull<u8>) -> SharedPage {
         assert!(page.cast::<u64>().is_aligned(), "a ring page is aligned");
         SharedPage {

@@ -1,0 +1,16 @@
+//! The guest's side of a ring, for the tests and the demo: what a frontend does with the macros of
+//! Xen's public ring.h.
+//!
+//! [`GuestPage`] is a ring page that a guest thread and a host thread share, [`Frontend`] the
+//! guest's private indices over it, [`Response`] what it reads back, and [`EventChannel`] the bell
+//! between the two.
+
+mod event;
+mod page;
+mod request;
+mod ring;
+
+pub use event::EventChannel;
+pub use page::GuestPage;
+pub use request::{discard, segmented, Response, Segment};
+pub use ring::Frontend;

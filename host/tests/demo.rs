@@ -1,0 +1,101 @@
+//! The demo, run small: its exit status, its table, and that it leaves nothing behind.
+
+use std::fs;
+use std::path::PathBuf;
+use std::process::{Command, Output};
+
+/// The columns of a row behind the guest's name and disk.
+const FIGURES: usize = 7;
+
+/// Runs the demo with a temporary folder of its own, which must be empty again afterwards.
+fn demo(name: &str, arguments: &[&str]) -> Output {
+    let folder = PathBuf::from(env!("CARGO_TARGET_TMPDIR")).join(name);
+    let _ = fs::remove_dir_all(&folder);
+    fs::create_dir_all(&folder).unwrap();
+    let mut command = Command::new(env!("CARGO_BIN_EXE_demo"));
+    let output = command.args(arguments).env("TMPDIR", &folder).output();
+    let left = fs::read_dir(&folder).unwrap().count();
+    assert_eq!(left, 0, "the demo left something in {}", folder.display());
+    output.unwrap()
+}
+
+/// What a demo says that went well.
+fn table(name: &str, arguments: &[&str]) -> String {
+    let output = demo(name, arguments);
+    let text = String::from_utf8(output.stdout).unwrap();
+    assert!(output.status.success(), "{text}");
+    text
+}
+
+/// The line that begins with a word.
+fn line<'a>(text: &'a str, begin: &str) -> &'a str {
+    let found = text.lines().find(|line| line.starts_with(begin));
+    found.unwrap_or_else(|| panic!("no line {begin:?} in\n{text}"))
+}
+
+/// The figures of a row: started, refused, responses, MiB moved, overruns, ids checked, MiB checked.
+fn figures(text: &str, begin: &str) -> Vec<f64> {
+    let words: Vec<&str> = line(text, begin).split_whitespace().collect();
+    let figures = &words[words.len() - FIGURES..];
+    figures.iter().map(|word| word.parse().unwrap()).collect()
+}
+
+#[test]
+fn the_demo_runs_small() {
+    let text = table("small", &["5", "30"]);
+    for port in 0..7 {
+        let row = figures(&text, &format!("{port}    "));
+        let [started, refused, responses, moved, overruns, ids, checked] = row[..] else {
+            panic!("{row:?}");
+        };
+        assert!(started > 0.0 && refused > 0.0 && moved > 0.0 && checked > 0.0);
+        assert_eq!((started + refused, responses), (responses, ids));
+        assert_eq!(overruns, 0.0);
+    }
+    assert_eq!(
+        figures(&text, "7    ")[4],
+        6.0,
+        "overruns of the hostile guest"
+    );
+    let reasons = line(&text, "refused by reason:").replace(':', " ");
+    let reasons: Vec<&str> = reasons.split_whitespace().skip(3).collect();
+    for (number, pair) in (21..=29).zip(reasons.chunks(2)) {
+        assert_eq!(pair[0], number.to_string());
+        assert_ne!(pair[1], "0", "reason {number} did not occur");
+    }
+    assert_eq!(reasons.len(), 18);
+    line(&text, "days rolled by the boards: 2,");
+    line(&text, "images: ");
+    line(&text, "Every check held, in ");
+}
+
+/// What the host and the hostile guest do hangs on the moment, what the others do on the seed.
+#[test]
+fn a_seed_gives_the_same_requests_again() {
+    let rows = |name, seed| {
+        let text = table(name, &[seed, "12"]);
+        let rows = (0..7).map(|port| line(&text, &format!("{port}    ")).to_string());
+        rows.collect::<Vec<String>>()
+    };
+    let first = rows("first", "9");
+    assert_eq!(first, rows("again", "9"));
+    assert_ne!(first, rows("other", "10"));
+}
+
+#[test]
+fn arguments_that_are_no_numbers_are_refused() {
+    for arguments in [&["x"][..], &["1", "0"], &["1", "-3"], &["1", "2", "3"]] {
+        let output = demo("refused", arguments);
+        assert_eq!(output.status.code(), Some(2), "{arguments:?}");
+        assert!(output.stdout.is_empty());
+    }
+}
+
+#[test]
+fn a_demo_without_a_temporary_folder_fails() {
+    let mut command = Command::new(env!("CARGO_BIN_EXE_demo"));
+    let output = command.env("TMPDIR", "/dev/null/none").output().unwrap();
+    assert_eq!(output.status.code(), Some(1));
+    let text = String::from_utf8(output.stdout).unwrap();
+    line(&text, "FAULT: temporary folder: ");
+}

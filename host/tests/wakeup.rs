@@ -1,0 +1,369 @@
+//! The lost wake-up: why docs/HOST.md asks for a second look before sleeping and after each
+//! response. A guest thread and a host thread share a live page.
+//!
+//! First in lockstep, in every order that their steps can have: without the rules some orders leave
+//! one side asleep for ever, with them none does. Then running freely, with the rules.
+
+use kernelharp_host::frontend::{segmented, EventChannel, Frontend, GuestPage, Segment};
+use kernelharp_host::generate::Random;
+use kernelharp_host::layout::SLOT_BYTES;
+use kernelharp_host::live::{LiveBackend, SharedPage};
+use kernelharp_host::{Backend, Plan, Port, Refusal, Sheet, Turn};
+use std::sync::atomic::{fence, AtomicBool, Ordering};
+use std::sync::{Condvar, Mutex};
+use std::thread;
+use std::time::{Duration, Instant};
+
+const READ: u8 = 0;
+
+/// A read of one sector, which passes every check.
+fn read(id: u64) -> [u8; SLOT_BYTES] {
+    let segment = Segment {
+        frame: 0,
+        first: 0,
+        last: 0,
+    };
+    segmented(READ, id, 0, &[segment])
+}
+
+fn sheet() -> Vec<u8> {
+    let sheet = Sheet {
+        writable: true,
+        sector_size: 512,
+        sectors: 2008,
+        ..Sheet::default()
+    };
+    sheet.bytes()
+}
+
+fn port() -> Result<Port, Refusal> {
+    Port::try_from(0)
+}
+
+/// The two sides of a ring in lockstep. The host goes by the parts of the rules, so that the guest
+/// can be let in between any two.
+struct Pair {
+    frontend: Frontend,
+    backend: Backend,
+    page: SharedPage,
+    port: Port,
+}
+
+impl Pair {
+    /// Both sides after one request and its response: req_event and rsp_event are behind.
+    fn warm() -> Pair {
+        let (page, port) = (GuestPage::new(), port().unwrap());
+        let mut pair = Pair {
+            frontend: Frontend::new(page),
+            backend: Backend::new().unwrap(),
+            page: page.shared(),
+            port,
+        };
+        pair.backend.open(port, &sheet()).unwrap();
+        pair.backend.grants_mut(port)[0] = 2;
+        let plan = pair.start(1);
+        pair.page
+            .copy_rsp_event_in(pair.backend.page_mut(pair.port));
+        let done = pair.backend.complete(port, plan.tag, plan.serial, 1);
+        let said = done.unwrap().notify;
+        assert!(pair
+            .page
+            .copy_response_out(pair.backend.page(pair.port), said));
+        assert_eq!(pair.frontend.response().map(|it| it.id), Some(1));
+        pair
+    }
+
+    /// Brings one request in flight.
+    fn start(&mut self, id: u64) -> Plan {
+        self.frontend.put(&read(id));
+        let _ = self.frontend.publish();
+        self.page.copy_in(self.backend.page_mut(self.port));
+        let Turn::Started(plan) = self.backend.turn() else {
+            panic!("a sound request starts");
+        };
+        self.page.took_request();
+        plan
+    }
+}
+
+#[derive(Clone, Copy, Debug, PartialEq, Eq)]
+enum Side {
+    Guest,
+    Host,
+}
+
+/// Every order of so many steps of each side.
+fn orders(guest: usize, host: usize) -> Vec<Vec<Side>> {
+    if guest == 0 || host == 0 {
+        return vec![[vec![Side::Guest; guest], vec![Side::Host; host]].concat()];
+    }
+    let after = |last, mut earlier: Vec<Vec<Side>>| {
+        earlier.iter_mut().for_each(|order| order.push(last));
+        earlier
+    };
+    let mut all = after(Side::Guest, orders(guest - 1, host));
+    all.extend(after(Side::Host, orders(guest, host - 1)));
+    all
+}
+
+/// Lets two threads take their steps in a given order.
+#[derive(Default)]
+struct Lockstep {
+    taken: Mutex<usize>,
+    moved: Condvar,
+}
+
+impl Lockstep {
+    fn run(
+        order: &[Side],
+        mut guest: impl FnMut(usize) + Send,
+        mut host: impl FnMut(usize) + Send,
+    ) {
+        let lockstep = Lockstep::default();
+        thread::scope(|scope| {
+            scope.spawn(|| lockstep.take_part(order, Side::Guest, &mut guest));
+            scope.spawn(|| lockstep.take_part(order, Side::Host, &mut host));
+        });
+    }
+
+    fn take_part(&self, order: &[Side], side: Side, step: &mut impl FnMut(usize)) {
+        let places = (0..order.len()).filter(|&place| order[place] == side);
+        for (number, place) in places.enumerate() {
+            let taken = self.taken.lock().unwrap();
+            let mut taken = self.moved.wait_while(taken, |it| *it != place).unwrap();
+            step(number);
+            *taken += 1;
+            self.moved.notify_all();
+        }
+    }
+}
+
+/// The steps of a look at the ring: copy in, turn, req_event out.
+const LOOK_STEPS: usize = 3;
+
+/// A guest publishes a request while the host looks so many times and then sleeps. Says whether the
+/// host sleeps over a request that nobody rings for.
+fn request_is_lost(order: &[Side], looks: usize) -> bool {
+    assert_eq!(order.len(), 3 + looks * LOOK_STEPS);
+    let Pair {
+        mut frontend,
+        mut backend,
+        mut page,
+        port,
+    } = Pair::warm();
+    let to_host = EventChannel::new();
+    let (mut old, mut served) = (0, false);
+    let guest = |step| match step {
+        0 => frontend.put(&read(2)),
+        1 => old = frontend.raise_req_prod(),
+        _ if frontend.backend_asked(old) => to_host.notify(),
+        _ => {}
+    };
+    let host = |step| match step % LOOK_STEPS {
+        _ if served => {}
+        0 => page.copy_in(backend.page_mut(port)),
+        1 => served = backend.turn() != Turn::Idle,
+        _ => {
+            page.copy_req_event_out(backend.page(port));
+            fence(Ordering::SeqCst);
+        }
+    };
+    Lockstep::run(order, guest, host);
+    !served && !to_host.heard()
+}
+
+/// Whose word the host notifies by.
+#[derive(Clone, Copy, PartialEq, Eq)]
+enum Word {
+    OfTheCall,
+    OfTheSecondLook,
+}
+
+/// A guest goes to sleep while the host gives its response. Says whether the guest sleeps over a
+/// response that nobody rings for.
+fn response_is_lost(order: &[Side], word: Word) -> bool {
+    let mut pair = Pair::warm();
+    let plan = pair.start(2);
+    let Pair {
+        frontend,
+        mut backend,
+        mut page,
+        port,
+    } = pair;
+    let to_guest = EventChannel::new();
+    let (mut awake, mut said) = (false, false);
+    let guest = |step| match step {
+        _ if awake => {}
+        1 => frontend.ask_for_event(),
+        _ => awake = frontend.has_response(),
+    };
+    let host = |step| match step {
+        0 => page.copy_rsp_event_in(backend.page_mut(port)),
+        1 => said = complete(&mut backend, &plan),
+        _ => {
+            let seen = page.copy_response_out(backend.page(port), said);
+            if said || (seen && word == Word::OfTheSecondLook) {
+                to_guest.notify();
+            }
+        }
+    };
+    Lockstep::run(order, guest, host);
+    !awake && !to_guest.heard()
+}
+
+fn complete(backend: &mut Backend, plan: &Plan) -> bool {
+    let result = plan.expected_result();
+    let done = backend.complete(plan.port, plan.tag, plan.serial, result);
+    done.unwrap().notify
+}
+
+/// How many of the orders lose a wake-up, and of how many.
+fn lost(orders: &[Vec<Side>], lost: impl Fn(&[Side]) -> bool) -> (usize, usize) {
+    let count = orders.iter().filter(|order| lost(order)).count();
+    (count, orders.len())
+}
+
+/// Those that look at req_prod before the request is published, and set req_event after the guest
+/// has looked at it: the host's last step comes last, and its first before the guest's second.
+#[test]
+fn a_request_is_slept_over_after_one_look() {
+    let one_look = orders(3, LOOK_STEPS);
+    assert_eq!(lost(&one_look, |order| request_is_lost(order, 1)), (7, 20));
+}
+
+#[test]
+fn no_request_is_slept_over_after_a_second_look() {
+    let two_looks = orders(3, 2 * LOOK_STEPS);
+    assert_eq!(lost(&two_looks, |order| request_is_lost(order, 2)), (0, 84));
+}
+
+/// Those in which the call is lent rsp_event before the guest sets it, and rsp_prod goes out after
+/// the guest's last look at it.
+#[test]
+fn a_response_is_slept_over_by_the_word_of_the_call() {
+    let by_call = |order: &[Side]| response_is_lost(order, Word::OfTheCall);
+    assert_eq!(lost(&orders(3, 3), by_call), (7, 20));
+}
+
+#[test]
+fn no_response_is_slept_over_after_a_second_look() {
+    let by_second_look = |order: &[Side]| response_is_lost(order, Word::OfTheSecondLook);
+    assert_eq!(lost(&orders(3, 3), by_second_look), (0, 20));
+}
+
+/// The shared part of a run without lockstep.
+#[derive(Default)]
+struct Bells {
+    to_host: EventChannel,
+    to_guest: EventChannel,
+    finished: AtomicBool,
+}
+
+/// Nobody sleeps as long unless a wake-up is lost.
+const BOUND: Duration = Duration::from_secs(60);
+/// The free run ends with whichever comes first.
+const REQUESTS: u64 = 150_000;
+const RUN_FOR: Duration = Duration::from_secs(4);
+
+/// Serves until the guest has finished, sleeping whenever a turn is idle.
+fn serve(mut backend: LiveBackend, bells: &Bells) {
+    loop {
+        let notify = match backend.turn() {
+            Turn::Idle if bells.finished.load(Ordering::SeqCst) => return,
+            Turn::Idle => {
+                assert!(bells.to_host.wait(BOUND), "the host slept over a request");
+                false
+            }
+            Turn::Started(plan) => {
+                let result = plan.expected_result();
+                let done = backend.complete(plan.port, plan.tag, plan.serial, result);
+                done.unwrap().notify
+            }
+            Turn::Answered { notify, .. } => notify,
+            Turn::Overrun(port) => panic!("overrun on {port}"),
+        };
+        if notify {
+            bells.to_guest.notify();
+        }
+    }
+}
+
+/// A guest that sends requests in small lots, some of them unknown operations, and sleeps until each
+/// lot has its responses.
+struct Asker<'a> {
+    frontend: Frontend,
+    bells: &'a Bells,
+    random: Random,
+    sent: u64,
+    answered: u64,
+}
+
+impl Asker<'_> {
+    /// Gives how many requests were sent.
+    fn run(mut self) -> u64 {
+        let begin = Instant::now();
+        while self.sent < REQUESTS && begin.elapsed() < RUN_FOR {
+            for _ in 0..1 + self.random.below(3) {
+                self.ask();
+            }
+            self.publish();
+            while self.answered < self.sent {
+                self.collect();
+            }
+        }
+        self.bells.finished.store(true, Ordering::SeqCst);
+        self.bells.to_host.notify();
+        self.sent
+    }
+
+    fn ask(&mut self) {
+        let mut request = read(self.sent);
+        request[0] = self.random.pick(&[READ, READ, 9]);
+        self.frontend.put(&request);
+        self.sent += 1;
+        if self.random.chance(50) {
+            self.publish();
+        }
+    }
+
+    fn publish(&mut self) {
+        if self.frontend.publish() {
+            self.bells.to_host.notify();
+        }
+    }
+
+    /// Reads what is there, and sleeps if that is not all.
+    fn collect(&mut self) {
+        while let Some(response) = self.frontend.response() {
+            assert_eq!(response.id, self.answered);
+            self.answered += 1;
+        }
+        // The two sides meet at another step each time.
+        (0..self.random.below(300)).for_each(|_| std::hint::spin_loop());
+        if self.answered < self.sent && !self.frontend.final_check() {
+            let rung = self.bells.to_guest.wait(BOUND);
+            assert!(rung, "the guest slept over a response");
+        }
+    }
+}
+
+#[test]
+fn nobody_sleeps_over_anything_in_a_free_run() {
+    let (page, port) = (GuestPage::new(), port().unwrap());
+    let mut backend = LiveBackend::new().unwrap();
+    backend.open(port, &sheet(), page.shared()).unwrap();
+    backend.grants_mut(port)[0] = 2;
+    let bells = Bells::default();
+    let sent = thread::scope(|scope| {
+        scope.spawn(|| serve(backend, &bells));
+        let asker = Asker {
+            frontend: Frontend::new(page),
+            bells: &bells,
+            random: Random::new(8),
+            sent: 0,
+            answered: 0,
+        };
+        asker.run()
+    });
+    println!("{sent} requests, each with its response");
+}
