@@ -43,3 +43,8 @@ pub use calls::{Completion, Core};
 pub use ffi::{ArchiveMismatch, Memory, MEMORY_WORDS};
 pub use sheet::Sheet;
 pub use terms::{Operation, Reason, Refusal, Status};
+
+/// The README's listing, compiled and run with the tests.
+#[cfg(doctest)]
+#[doc = include_str!("../../README.md")]
+struct Readme;
