@@ -1,6 +1,7 @@
 # make demo: a host with eight simulated guests on disk images in a temporary folder, one of them hostile.
 .PHONY: demo
-demo:
+demo: target/staticlib/libkernelharp.a
+	@tests/need cargo cargo-web
 	@cargo run --release --quiet --manifest-path host/Cargo.toml --bin demo
 
 # make test: every check, proof and test. Its last line is the verdict.
@@ -8,13 +9,13 @@ demo:
 test:
 	@bash tests/run
 
-# The archive, where it isn't there yet.
-KERNELHARP_ARCHIVE ?= target/staticlib/libkernelharp.a
-target/staticlib/libkernelharp.a:
+# The archive: proved, then compiled. The first time takes some minutes.
+target/staticlib/libkernelharp.a: crates.txt $(shell find crates -name '*.rt' -o -name '*.antt')
 	rt staticlib kernelharp
 
 # make install: the header, the archive and the pkg-config file, below DESTDIR and PREFIX.
 PREFIX ?= /usr/local
+KERNELHARP_ARCHIVE ?= target/staticlib/libkernelharp.a
 .PHONY: install
 install: $(KERNELHARP_ARCHIVE)
 	install -d $(DESTDIR)$(PREFIX)/include $(DESTDIR)$(PREFIX)/lib/pkgconfig
