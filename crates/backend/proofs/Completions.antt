@@ -11,15 +11,14 @@ use lib.ListN.{length}
 use borrow.Author.Tests.{le-leb, lt-leb, eq-eqb, ne-eqb}
 use Rattle.model.specs.Answers.{completedNumber}
 use Rattle.model.specs.Backend.{viewOf, holderOf, withPort, withTag, withPointer, finishedPort, does, next}
-use Rattle.model.specs.Buffers.{ports, ringsLength, pageOf, setPage}
+use Rattle.model.specs.Buffers.{ports, ringsLength}
 use Rattle.model.specs.Calls.{Call, Complete, CompleteEffect, Effect}
 use Rattle.model.specs.Complete.{statusOf, completed}
 use Rattle.model.specs.Port.{Holder, free, held, isClosed, isBusy, clearBusy, zeroTag, after}
-use Rattle.model.specs.Ring.{ringOf, rspEvent}
+use Rattle.model.specs.Ring.{ringOf}
 use Rattle.model.specs.Rules.{namesNone, tagOf, refusedCompletion, dueComplete, effectDue}
-use Rattle.model.specs.Turn.{portId, ringAt, responded, respondedAt, notifies}
+use Rattle.model.specs.Turn.{portId, ringAt}
 use Rattle.model.specs.declared.Completed.{Completed}
-use Rattle.model.specs.declared.Pair.{Pair}
 use Rattle.model.specs.declared.Params.{Params}
 use Rattle.model.specs.declared.Port.{Port}
 use Rattle.model.specs.declared.PortId.{PortId}
@@ -33,9 +32,10 @@ use Rattle.memory.specs.Layout.{tags, memoryWords}
 use Rattle.memory.specs.Words.{portAt, tagAt, setTag, setWord, producedAt, busyAt, withProduced}
 use Rattle.memory.proofs.Abstract.{backend-port-at, backend-tag-at, backend-setTag, backend-produced, backend-busy, with-port-twice}
 use Rattle.memory.proofs.Words.{length-setTag, length-setWord, setTag-apart, tag-port, port-produced}
+use Rattle.service.proofs.View.{view-state, view-responded, view-notifies}
 use Rattle.backend.specs.Promise.{Promised}
 use Rattle.backend.specs.Complete.{Holds, Released, Finished}
-use Rattle.backend.proofs.Promise.{promised, pointer-stays, view-state}
+use Rattle.backend.proofs.Promise.{promised, pointer-stays}
 
 -- ---- the tag released
 
@@ -56,22 +56,12 @@ released m n k t p o =
 -- ---- the response given
 
 module _ (m : List ℕ) (k : ℕ) (h : k < ports) (rings : List ℕ) where
-  pub view-responded : (q : Pair) (s : Status)
-      → respondedAt (viewOf (backendOf m)) rings k q s ≡ setPage rings k (responded (ringOf (portAt m k .params)) (pageOf rings k) (portAt m k .produced) q s)
-  unfolding respondedAt viewOf
-  view-responded q s =
-      ap (λ (p : Port). setPage rings k (responded (ringOf (p .params)) (pageOf rings k) (p .produced) q s)) (backend-port-at m k h)
-
-  pub view-notifies : notifies (viewOf (backendOf m)) rings k ≡ eqb (rspEvent (pageOf rings k)) (after (portAt m k .produced))
-  unfolding notifies viewOf
-  view-notifies = ap (λ (p : Port). eqb (rspEvent (pageOf rings k)) (after (p .produced))) (backend-port-at m k h)
-
   pub finished-effect : (p : Port) (x : Tag) (result : ℤ) (left : List ℕ) (s : Status) (told : Bool) → p ≡ portAt m k → s ≡ statusOf (x .expected) result
       → RespondedIn (ringOf (p .params)) rings k (p .produced) (x .pair) s left told
       → _≡_ {A = CompleteEffect} (record { rings = left; answer = Completed.Done (portId k) s told }) (completed (viewOf (backendOf m)) rings k x result)
   unfolding completed
   finished-effect p x result left s told e z r =
-      rw (← z, view-responded (x .pair) s, view-notifies, ← e, r .rings, r .notify)
+      rw (← z, view-responded m k h rings (x .pair) s, view-notifies m k h rings, ← e, r .rings, r .notify)
 
 -- ---- the ways that it ends
 

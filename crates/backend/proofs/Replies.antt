@@ -17,8 +17,9 @@ use Rattle.model.specs.declared.Reply.{Reply}
 use Rattle.model.specs.declared.Sheet.{Sheet}
 use Rattle.memory.specs.Abstract.{backendOf}
 use Rattle.memory.specs.Words.{portAt}
+use Rattle.service.proofs.View.{view-state, view-in-flight}
 use Rattle.backend.specs.Promise.{refusal, Promised}
-use Rattle.backend.proofs.Promise.{promised, pointer-stays, view-state, view-in-flight}
+use Rattle.backend.proofs.Promise.{promised, pointer-stays}
 
 -- ---- open
 

@@ -24,10 +24,10 @@ use Rattle.model.specs.declared.Verdict.{Verdict}
 use Rattle.memory.specs.Abstract.{backendOf}
 use Rattle.memory.specs.Words.{portAt}
 use Rattle.memory.proofs.Abstract.{backend-port-at}
-use Rattle.backend.specs.Pick.{pickFrom, picked}
+use Rattle.service.specs.Pick.{pickFrom, picked}
+use Rattle.service.specs.Serve.{Turns}
+use Rattle.service.specs.declared.choice.Pick.{Pick}
 use Rattle.backend.specs.Promise.{Promised}
-use Rattle.backend.specs.Serve.{Turns}
-use Rattle.backend.specs.declared.choice.Pick.{Pick}
 use Rattle.backend.proofs.Promise.{promised, pointer-stays}
 
 -- ---- the search finds the port that the rules serve

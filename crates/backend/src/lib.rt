@@ -2,9 +2,7 @@
 // No call asks anything of its arguments: what it cannot take it refuses, with document 01's number, and then changes nothing. `turn_into` is `turn` for
 // a caller that lends its words as a slice.
 mod attach;
-mod choice;
 mod completion;
-mod service;
 mod turning;
 
 pub use attach::close;

@@ -2,12 +2,12 @@
 use crate::GRANTS;
 use crate::RINGS;
 use crate::WRONG_LENGTH;
-use crate::choice::Pick;
-use crate::choice::pick_port;
-use crate::service::serve;
 use memory::WORDS;
 use model::State;
 use model::Turned;
+use service::Pick;
+use service::pick_port;
+use service::serve;
 ghost use mathlib.Core.Path.{_≡_};
 ghost use Prim.Native.Nat.{_<_};
 ghost use lib.ListN.{length};

@@ -1,7 +1,7 @@
 -- `backend::turning::arm_port` meets its contract, by the state of the port. Assumes nothing.
 use borrow.Author.Needs.{needs}
 use native.Mathlib.Omega.{arith}
-use Rattle.backend.proofs.Promise.{view-state, view-consumed}
+use Rattle.service.proofs.View.{view-state, view-consumed}
 use Rattle.backend.proofs.turning.arm_port.Statement.{statement}
 use Rattle.backend.proofs.turning.arm_port.Tie as tie
 

@@ -8,7 +8,7 @@ use Rattle.model.specs.Backend.{viewOf}
 use Rattle.model.specs.Buffers.{ports}
 use Rattle.memory.specs.Abstract.{backendOf}
 use Rattle.memory.proofs.Words.{pointer-lt}
-use Rattle.backend.proofs.Picks.{pick-from}
+use Rattle.service.proofs.Picks.{pick-from}
 use Rattle.backend.proofs.Turns.{Found, turn-wrong-rings, turn-wrong-grants, turn-idle, pick-found, turn-served}
 use Rattle.backend.proofs.turning.turn_into.Statement.{statement}
 use Rattle.backend.proofs.turning.turn_into.Tie as tie

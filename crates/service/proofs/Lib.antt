@@ -1,0 +1,4 @@
+pub mod View
+pub mod Picks
+pub mod Serves
+pub mod Takes
