@@ -1,2 +1,3 @@
 pub mod Promise
 pub mod Steps
+pub mod Run
