@@ -5,7 +5,7 @@ use Prim.Native.Nat.{ℕ, suc, _-_}
 use native.Mathlib.Omega.{arith}
 use borrow.Author.Tests.{ne-eqb}
 use lib.IntN.{ℤ}
-use lib.ListN.{length, take, drop}
+use lib.ListN.{length}
 use Rattle.model.specs.Answers.{turnedNumber, turnedWords, completedNumber, completedWords}
 use Rattle.model.specs.Calls.{Call, Effect, TurnEffect, CompleteEffect}
 use Rattle.model.specs.Rules.{effectDue}
@@ -15,7 +15,7 @@ use Rattle.backend.specs.Promise.{refusal, Promised}
 use Rattle.kernelharp.specs.Promise.{Returned, extentsIn, turnAnswer, turnCall, TurnReturned, completeCall, CompleteReturned}
 use Rattle.kernelharp.specs.Steps.{turnedInto, Within, completedInto}
 use Rattle.kernelharp.proofs.Refusals.{Keeps, turn-keeps, NumberedIn, complete-numbered}
-use Rattle.kernelharp.proofs.Words.{middle, around-middle, unchanged}
+use Rattle.kernelharp.proofs.Words.{back, middle, around-middle, unchanged}
 
 -- the number and the memory
 pub returned : (m : List ℕ) (c : Call) (e : Effect c) (left : List ℕ) (n : ℕ) → Promised m c e left → n ≡ refusal c e → Returned m c n left
@@ -30,7 +30,7 @@ returned m c e left n p h = record {
 module _ (m rings grants answer pages left : List ℕ) where
   pub within : (r : Turned) (ys : List ℕ) → length answer ≡ 64 → length ys ≡ 44
       → Promised m (turnCall rings grants answer) (record { rings = pages; words = ys; answer = r }) left
-      → Within m rings grants answer r pages (take 16 answer ++ (ys ++ drop 44 (drop 16 answer))) left
+      → Within m rings grants answer r pages (back answer ys) left
   within r ys h l p = record {
     promised =
         subst (λ (z : List ℕ). Promised m (turnCall rings grants answer) (record { rings = pages; words = z; answer = r }) left)

@@ -31,13 +31,20 @@ all-put xs vs h =
     sets-eq vs xs 0 (omega arith) ∙ rw (zero-add, none) (append-nil vs)
 
 -- the middle that came back
+abbrev pub back : List ℕ → List ℕ → List ℕ
+back xs ys = take 16 xs ++ (ys ++ drop 44 (drop 16 xs))
+
 module _ (xs ys : List ℕ) (h : length xs ≡ 64) (l : length ys ≡ 44) where
-  pub middle : extentsIn (take 16 xs ++ (ys ++ drop 44 (drop 16 xs))) ≡ ys
+  pub middle : extentsIn (back xs ys) ≡ ys
   middle = rw (drop-at (take 16 xs) (ys ++ drop 44 (drop 16 xs)) 16 (length-take-le 16 xs (omega arith))) (take-at ys (drop 44 (drop 16 xs)) 44 l)
 
-  pub around-middle : take 16 xs ++ (ys ++ drop 44 (drop 16 xs)) ≡ take 16 xs ++ (extentsIn (take 16 xs ++ (ys ++ drop 44 (drop 16 xs))) ++ drop 60 xs)
-  around-middle = ap (λ (z : List ℕ). take 16 xs ++ (z ++ drop 44 (drop 16 xs))) (sym middle) ∙ ap (λ (z : List ℕ). take 16 xs ++ (extentsIn (take 16 xs ++ (ys ++ drop 44 (drop 16 xs))) ++ z)) (drop-drop 44 16 xs)
+  pub around-middle : back xs ys ≡ take 16 xs ++ (extentsIn (back xs ys) ++ drop 60 xs)
+  around-middle =
+      ap (back xs) (sym middle) ∙ ap (λ (z : List ℕ). take 16 xs ++ (extentsIn (back xs ys) ++ z)) (drop-drop 44 16 xs)
 
 -- a middle that did not change
 pub unchanged : (xs : List ℕ) → take 16 xs ++ (extentsIn xs ++ drop 60 xs) ≡ xs
-unchanged xs = ap (λ (z : List ℕ). take 16 xs ++ (extentsIn xs ++ z)) (sym (drop-drop 44 16 xs)) ∙ ap (λ (z : List ℕ). take 16 xs ++ z) (take-append-drop 44 (drop 16 xs)) ∙ take-append-drop 16 xs
+unchanged xs =
+    ap (λ (z : List ℕ). take 16 xs ++ (extentsIn xs ++ z)) (sym (drop-drop 44 16 xs))
+    ∙ ap (λ (z : List ℕ). take 16 xs ++ z) (take-append-drop 44 (drop 16 xs))
+    ∙ take-append-drop 16 xs

@@ -19,30 +19,32 @@ use Rattle.backend.specs.Promise.{refusal}
 abbrev pub dueOn : List ℕ → (c : Call) → Effect c
 dueOn memory c = effectDue (viewOf (backendOf memory)) c
 
--- Every function, and all of kh_open and kh_close: it returns 0 when the call was done, else document 01's refusal number; on a refusal no word of the memory changes.
+-- Every function, and all that there is to kh_open and kh_close. The C interface: "Each returns 0 when the call was done, else document 01's refusal number. On a
+-- refusal no byte behind any pointer changes, `answer` included."
 pub record Returned (memory : List ℕ) (c : Call) (n : ℕ) (left : List ℕ) : Type 0 where
   pub number : n ≡ refusal c (dueOn memory c)
   pub backend : backendOf left ≡ afterCall (backendOf memory) c
   pub refused : (n ≡ 0 → ⊥) → left ≡ memory
 
--- an answer's words after a function that returned n: on a refusal none of them changes
+-- an answer's words after a function that returned n
 abbrev pub answered : ℕ → List ℕ → List ℕ → List ℕ
 answered n lent written = cond (eqb n 0) written lent
 
 -- ---- kh_turn
 
--- the words 16 to 59, four to each of eleven extents
+-- "16 + 4i to 19 + 4i: extent i, i < 11"
 abbrev pub extentsIn : List ℕ → List ℕ
 extentsIn answer = take 44 (drop 16 answer)
 
--- all 64 words: the values in 0 to 11; 12 to 15 are 0; the extents; 60 to 63 are 0
+-- the 64 words: the values in 0 to 11, "12 to 15: 0, room for later orders", the extents, "60 to 63: 0"
 abbrev pub turnAnswer : List ℕ → List ℕ → List ℕ
 turnAnswer values extents = values ++ replicate 4 0 ++ extents ++ replicate 4 0
 
+-- the turn that is lent such an answer
 abbrev pub turnCall : List ℕ → List ℕ → List ℕ → Call
 turnCall rings grants answer = Turn rings grants (extentsIn answer)
 
--- The rings and the answer are those due: a turn that was done writes all 64 words, and a word that its kind does not use is 0.
+-- The rings and the answer are those due: "when the call is done all 64 words are written, and a word that the kind does not use is 0".
 pub record TurnReturned (memory rings grants answer : List ℕ) (n : ℕ) (pages words left : List ℕ) : Type 0 where
   pub returned : Returned memory (turnCall rings grants answer) n left
   pub ringsDue : pages ≡ dueOn memory (turnCall rings grants answer) .rings
@@ -56,7 +58,7 @@ pub record TurnReturned (memory rings grants answer : List ℕ) (n : ℕ) (pages
 abbrev pub completeCall : List ℕ → ℕ → ℕ → ℕ → ℤ → Call
 completeCall rings port tag serial result = Complete rings (portId port) (tagId tag) (serialOf serial) result
 
--- The rings and the answer are those due: words 0 to 2 are its values, 3 is 0.
+-- The rings and the answer are those due: "word 0 port, 1 status magnitude (0, 1, 2), 2 notify 0/1, 3 zero".
 pub record CompleteReturned (memory rings : List ℕ) (port tag serial : ℕ) (result : ℤ) (answer : List ℕ) (n : ℕ) (pages words left : List ℕ) : Type 0 where
   pub returned : Returned memory (completeCall rings port tag serial result) n left
   pub ringsDue : pages ≡ dueOn memory (completeCall rings port tag serial result) .rings
