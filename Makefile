@@ -1,7 +1,7 @@
 # make demo: a host with eight simulated guests on disk images in a temporary folder, one of them hostile.
 .PHONY: demo
 demo: target/staticlib/libkernelharp.a
-	@tests/need cargo cargo-web
+	@tests/need-rust
 	@cargo run --release --quiet --manifest-path host/Cargo.toml --bin demo
 
 # make test: every check, proof and test. Its last line is the verdict.
@@ -21,4 +21,4 @@ install: $(KERNELHARP_ARCHIVE)
 	install -d $(DESTDIR)$(PREFIX)/include $(DESTDIR)$(PREFIX)/lib/pkgconfig
 	install -m 644 include/kernelharp.h $(DESTDIR)$(PREFIX)/include
 	install -m 644 $(KERNELHARP_ARCHIVE) $(DESTDIR)$(PREFIX)/lib/libkernelharp.a
-	sed 's|@PREFIX@|$(PREFIX)|' kernelharp.pc.in >$(DESTDIR)$(PREFIX)/lib/pkgconfig/kernelharp.pc
+	sed 's|@PREFIX@|$(abspath $(PREFIX))|' kernelharp.pc.in >$(DESTDIR)$(PREFIX)/lib/pkgconfig/kernelharp.pc

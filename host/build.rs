@@ -1,5 +1,6 @@
-//! Links libkernelharp.a: the file that KERNELHARP_ARCHIVE names (an absolute path, or one from this
-//! folder), else ../target/staticlib/libkernelharp.a, which is built first where it isn't there.
+//! Links libkernelharp.a: the file that KERNELHARP_ARCHIVE names (an absolute path, or one from the
+//! repository's root), else target/staticlib/libkernelharp.a there, which is built first where it
+//! isn't there.
 
 use std::env;
 use std::path::{Path, PathBuf};
@@ -9,9 +10,11 @@ const VARIABLE: &str = "KERNELHARP_ARCHIVE";
 const NAME: &str = "libkernelharp.a";
 
 fn main() {
+    let package = env::var_os("CARGO_MANIFEST_DIR").expect("cargo runs this");
+    let root = Path::new(&package).parent().expect("the repository's root");
     let archive = match env::var_os(VARIABLE) {
-        Some(path) => PathBuf::from(path),
-        None => built_archive(),
+        Some(path) => root.join(path),
+        None => built_archive(root),
     };
     let is_archive = archive.file_name().is_some_and(|name| name == NAME) && archive.is_file();
     assert!(is_archive, "{} is no file {NAME}", archive.display());
@@ -23,9 +26,7 @@ fn main() {
 }
 
 /// The repository's own archive.
-fn built_archive() -> PathBuf {
-    let package = env::var_os("CARGO_MANIFEST_DIR").expect("cargo runs this");
-    let root = Path::new(&package).parent().expect("the repository's root");
+fn built_archive(root: &Path) -> PathBuf {
     let archive = root.join("target/staticlib").join(NAME);
     if !archive.is_file() {
         let built = Command::new("rt")

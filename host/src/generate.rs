@@ -26,7 +26,7 @@ pub use crate::calls::{Completion, Core};
 pub use census::Census;
 pub use generator::Generator;
 pub use random::Random;
-pub use run::{list, run, Failure, Report};
+pub use run::{run, Failure, Report};
 pub use world::{Outcome, World, UNTOUCHED};
 
 use crate::reference::{Backend, DONE_WORDS, TURN_WORDS};

@@ -39,15 +39,6 @@ pub fn u64_at(b: &[u8], i: usize) -> u64
     u32_at(b, i) as u64 + u32_at(b, high) as u64 * 4294967296
 }
 
-// The two bytes of v go to i.
-pub fn put_u16(b: &mut [u8], i: usize, v: u16)
-    requires { ⌜ i + 2 ≤ length (now b) ⌝ }
-    ensures { λ _. ⌜ now (b .exit) ≡ store 2 (now (b .entry)) i v ⌝ }
-{
-    b[i] = (v % 256) as u8;
-    b[i + 1] = (v / 256 % 256) as u8;
-}
-
 // The four bytes of v go to i. The highest is cut by % 256 too, as in the definition of a store.
 pub fn put_u32(b: &mut [u8], i: usize, v: u32)
     requires { ⌜ i + 4 ≤ length (now b) ⌝ }
@@ -70,7 +61,7 @@ pub fn put_u64(b: &mut [u8], i: usize, v: u64)
 }
 
 // The 112 bytes from `at`. Each byte is read once, since another domain may write it in the meantime; look at the copy after that.
-// This says how the source reads. What the compiled code loads is not proved here: a compiler may load from the page again.
+// This says how the source reads. What the compiled code loads no proof shows: a compiler may load from the page again. tests/once looks at the archive.
 pub fn copy_slot(page: &[u8], at: usize) -> [u8; 112]
     requires { ⌜ at + 112 ≤ length (now page) ⌝ }
     ensures { λ r. ⌜ r ≡ part 112 (now (page .entry)) at ⌝ }

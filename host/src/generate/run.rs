@@ -2,7 +2,6 @@
 
 use super::{Call, Census, Core, Generator, Outcome, Step, World, UNTOUCHED};
 use crate::demand3::History;
-use crate::reference::Backend;
 use std::fmt;
 
 /// Where a run stopped, and why.
@@ -98,20 +97,6 @@ pub fn run(cores: &mut [&mut dyn Core], seed: u64, calls: u64) -> Result<Report,
         census,
         longest_wait: history.longest_wait(),
     })
-}
-
-/// The steps of a list as a list, made by running the reference; for replaying elsewhere.
-pub fn list(seed: u64, calls: u64) -> Vec<Step> {
-    let mut generator = Generator::new(seed);
-    let (mut backend, mut world) = (Backend::new(), World::new());
-    let mut steps = Vec::new();
-    for _ in 0..calls {
-        let step = generator.next_step(&world);
-        let outcome = world.run(&mut backend, &step);
-        generator.observe(&step.call, &outcome);
-        steps.push(step);
-    }
-    steps
 }
 
 /// What each program's call left as it was, and the first one's call against every other one's.

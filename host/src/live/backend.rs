@@ -33,7 +33,7 @@ impl LiveBackend {
     /// Opens a closed port over a page, which isn't touched.
     pub fn open(&mut self, port: Port, sheet: &[u8], mut page: SharedPage) -> Result<(), Refusal> {
         self.backend.open(port, sheet)?;
-        page.restart();
+        page.restart(self.backend.page_mut(port));
         self.pages[port.index()] = Some(page);
         Ok(())
     }

@@ -56,12 +56,14 @@ impl SharedPage {
         }
     }
 
-    /// Counts from 0 again, for a port opened anew.
-    pub fn restart(&mut self) {
+    /// Counts from 0 again, for a port opened anew. Nothing of an earlier opening stays in the private
+    /// page: a turn before the first copy would serve it.
+    pub fn restart(&mut self, private: &mut [u8; PAGE_BYTES]) {
         self.req_cons = 0;
         self.rsp_prod_pvt = 0;
         self.copied = 0;
         self.broken = false;
+        private.fill(0);
     }
 
     /// Before a turn: req_prod, the requests not yet copied, and rsp_event. A broken port is served
@@ -122,7 +124,7 @@ impl SharedPage {
     }
 
     /// The requests between the last one copied and req_prod. An overrun is answered without a look
-    /// at any request.
+    /// at any request; should req_prod come back before that, they are copied anew.
     fn copy_requests_in(&mut self, req_prod: u32, private: &mut [u8; PAGE_BYTES]) {
         let in_flight = self.req_cons.wrapping_sub(self.rsp_prod_pvt);
         let waiting = req_prod.wrapping_sub(self.req_cons);

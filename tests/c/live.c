@@ -1,0 +1,159 @@
+/*
+ * The listing of docs/HOST.md, run: over live pages it leaves what a host leaves that lends the pages themselves, and
+ * answers alike, whatever the guests publish. One thread; the order of two is for host/tests/wakeup.rs.
+ */
+#include "rules.c" /* the listing */
+
+#include <stdio.h>
+#include <stdlib.h>
+
+enum { STEPS = 400000, PLANS = KH_PORTS * KH_TAGS };
+
+static uint32_t pages[KH_PORTS * PAGE_WORDS]; /* the guests' */
+static uint32_t lent[KH_PORTS * PAGE_WORDS];  /* the same, of the host that lends them */
+static kh_memory lender;
+
+static kh_turned plans[PLANS]; /* in flight, or completed before */
+static uint32_t published[KH_PORTS];
+static unsigned long came[4], reopened, refused, drawn_back;
+
+static uint64_t state = UINT64_C(0x6B65726E656C6861);
+
+static uint32_t below(uint32_t bound) {
+    state = state * UINT64_C(6364136223846793005) + UINT64_C(1442695040888963407);
+    return (uint32_t)(state >> 33) % bound;
+}
+
+static void same(const char *what, bool holds) {
+    if (!holds || memcmp(pages, lent, sizeof pages) != 0) {
+        printf("tests/c/live.c: %s: %s\n", what, holds ? "the pages differ" : "the answers differ");
+        exit(1);
+    }
+}
+
+/* ---- the guests, whose writes reach both pages */
+
+static void guest_writes(uint32_t port, size_t word, uint32_t value) {
+    pages[PAGE_WORDS * port + word] = lent[PAGE_WORDS * port + word] = htole32(value);
+}
+
+/* Rubbish half of the time, else a read or write of one sector. */
+static void guest_requests(uint32_t port, uint32_t index) {
+    size_t at = slot_word(index);
+    bool rubbish = below(2) == 0;
+    for (size_t i = 0; i < WORD(KH_SLOT_BYTES); i++)
+        guest_writes(port, at + i, rubbish ? below(UINT32_MAX) : 0);
+    guest_writes(port, at + 2, index);
+    if (!rubbish)
+        guest_writes(port, at, below(2) | 1 << 8);
+}
+
+static void guest_publishes(uint32_t port, uint32_t req_prod) {
+    published[port] = req_prod;
+    guest_writes(port, WORD(KH_REQ_PROD), req_prod);
+}
+
+static void guest_step(uint32_t port) {
+    uint32_t more = below(6);
+    for (uint32_t i = 0; i < more; i++)
+        guest_requests(port, published[port] + i);
+    guest_publishes(port, published[port] + more);
+    if (below(2) == 0)
+        guest_writes(port, WORD(KH_RSP_EVENT), ports[port].rsp_prod + below(4));
+}
+
+/* ---- each call of both hosts */
+
+static kh_turned lent_turn(void) {
+    uint64_t answer[KH_TURN_WORDS];
+    kh_turn(lender.words, (uint8_t *)lent, sizeof lent, grants, sizeof grants, answer);
+    return kh_read_turn(answer);
+}
+
+static bool same_plan(const kh_plan *a, const kh_plan *b) {
+    bool holds = a->tag == b->tag && a->serial == b->serial && a->operation == b->operation && a->start == b->start &&
+                 a->count == b->count && a->secure == b->secure && a->extent_count == b->extent_count;
+    for (size_t i = 0; i < KH_EXTENTS; i++)
+        holds = holds && a->extents[i].frame == b->extents[i].frame && a->extents[i].first == b->extents[i].first &&
+                a->extents[i].length == b->extents[i].length && a->extents[i].sector == b->extents[i].sector;
+    return holds;
+}
+
+static void turn_both(void) {
+    kh_turned here = host_turn(), there = lent_turn();
+    same("turn", here.kind == there.kind && here.port == there.port && here.reason == there.reason &&
+                     here.notify == there.notify && same_plan(&here.plan, &there.plan));
+    came[here.kind]++;
+    if (here.kind == KH_STARTED)
+        plans[KH_TAGS * here.port + here.plan.tag] = here;
+}
+
+static void complete_both(const kh_turned *turned, int32_t result) {
+    uint64_t answer[KH_DONE_WORDS] = {0};
+    bool notify = false;
+    uint32_t tag = turned->plan.tag, serial = turned->plan.serial;
+    uint32_t here = host_complete(turned->port, tag, serial, result, &notify);
+    uint32_t there = kh_complete(lender.words, (uint8_t *)lent, sizeof lent, turned->port, tag, serial, result, answer);
+    same("complete", here == there && notify == kh_read_completion(answer).notify);
+    refused += here != KH_DONE;
+}
+
+static void open_both(uint32_t port) {
+    static const uint8_t sheet[] = "\x03\x01\0\x01\0\x06\0\x03\0\x07\0\x04\0w5122008";
+    if (ports[port].live == NULL) { /* the guest sets its page up */
+        for (size_t i = 0; i < PAGE_WORDS; i++)
+            guest_writes(port, i, i == WORD(KH_REQ_EVENT) || i == WORD(KH_RSP_EVENT));
+        published[port] = 0;
+    }
+    uint32_t here = host_open(port, sheet, sizeof sheet - 1, pages + PAGE_WORDS * port);
+    same("open", here == kh_open(lender.words, port, sheet, sizeof sheet - 1));
+    reopened += here == KH_DONE;
+}
+
+/*
+ * req_prod moved back, or seen in an overrun and then back at a legal place, with other requests behind it. Both hosts
+ * look in between: one that copies has read a waiting request already, and is not to see it rewritten.
+ */
+static void draw_back(uint32_t port) {
+    uint32_t legal = published[port], back = below(3);
+    guest_publishes(port, back == 0 ? legal + 1000 : legal - back);
+    turn_both();
+    if (ports[port].live == NULL || ports[port].broken)
+        return;
+    for (uint32_t i = back == 0 ? ports[port].req_cons : legal - back; i != legal; i++)
+        guest_requests(port, i);
+    guest_publishes(port, legal);
+    drawn_back++;
+}
+
+static void step(uint32_t port) {
+    switch (below(64)) {
+    case 0:
+        open_both(port);
+        break;
+    case 1:
+        same("close", host_close(port) == kh_close(lender.words, port));
+        break;
+    case 2:
+        draw_back(port);
+        break;
+    default:
+        if (below(3) == 0)
+            guest_step(port);
+        else if (below(2) == 0)
+            turn_both();
+        else
+            complete_both(&plans[below(PLANS)], (int32_t)below(3));
+    }
+}
+
+int main(void) {
+    memset(grants, KH_GRANT_READ_WRITE, sizeof grants);
+    for (int i = 0; i < STEPS; i++)
+        step(below(KH_PORTS));
+    printf("     %d steps: idle %lu, started %lu, answered %lu, overrun %lu, opened %lu, completions refused %lu, "
+           "drawn back %lu\n",
+           STEPS, came[KH_IDLE], came[KH_STARTED], came[KH_ANSWERED], came[KH_OVERRUN], reopened, refused, drawn_back);
+    bool all = came[KH_IDLE] && came[KH_STARTED] && came[KH_ANSWERED] && came[KH_OVERRUN];
+    return all && reopened > KH_PORTS && refused && drawn_back ? 0 : 1;
+}
