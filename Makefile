@@ -9,6 +9,11 @@ demo: target/staticlib/libkernelharp.a
 test:
 	@bash tests/run
 
+# make bench: times, instructions and memory, against the second program. Not part of make test.
+.PHONY: bench
+bench: target/staticlib/libkernelharp.a
+	@bash tests/bench
+
 # The archive: proved, then compiled. The first time takes some minutes.
 target/staticlib/libkernelharp.a: crates.txt $(shell find crates -name '*.rt' -o -name '*.antt')
 	rt staticlib kernelharp
