@@ -45,10 +45,6 @@ pub and-false : (b : Bool) → b && false ≡ false
 and-false true = refl
 and-false false = refl
 
-pub or-true : (b : Bool) → b || true ≡ true
-or-true true = refl
-or-true false = refl
-
 pub or-same : (b : Bool) → b || b ≡ b
 or-same true = refl
 or-same false = refl

@@ -1,12 +1,15 @@
 -- The reasons of the checks 21 to 25, operation by operation, and of 28 and 29, in the order in which the code tests. Assumes nothing.
-use borrow.Author.Tests.{lt-ltb, le-ltb, ne-eqb}
+use borrow.Author.Tests.{lt-ltb, le-ltb, eq-eqb, ne-eqb}
 use mathlib.Core.Path.{_≡_, refl, sym}
 use mathlib.Core.Bool.{Bool, true, false, not, cond, _&&_, _||_}
 use Prim.Native.Nat.{ℕ, _+_, _%_, _<_, _≤_}
+use native.Mathlib.Nat.{mod-one}
+use native.Mathlib.Omega.{arith}
 use lib.Dec.{eqb, ltb, leb}
 use Rattle.model.specs.Ring.{Request}
 use Rattle.model.specs.Checks.{asksSecure, isAligned, unknownOperation, featureOff, secureOff, readOnly, wrongAmount}
 use Rattle.model.specs.declared.Params.{Params}
+use Rattle.model.specs.declared.SectorSize.{SectorSize}
 use Rattle.request.specs.Reasons.{headReason, endReason}
 use Rattle.request.proofs.Laws.{and-false}
 
@@ -90,6 +93,14 @@ module _ (p : Params) (r : Request) where
       rw (ne-eqb (r .pair .operation) 0 a, ne-eqb (r .pair .operation) 1 b, ne-eqb (r .pair .operation) 2 c, ne-eqb (r .pair .operation) 3 d, ne-eqb (r .pair .operation) 5 e)
 
 -- ---- the end
+
+-- what keeps to eight sectors keeps to every sector size
+pub aligned-all : (z : SectorSize) (x : ℕ) → x % 8 ≡ 0 → isAligned z x ≡ true
+unfolding isAligned
+aligned-all SectorSize.Bytes512 x h = rw (mod-one x)
+aligned-all SectorSize.Bytes1024 x h = eq-eqb (x % 2) 0 (omega arith)
+aligned-all SectorSize.Bytes2048 x h = eq-eqb (x % 4) 0 (omega arith)
+aligned-all SectorSize.Bytes4096 x h = eq-eqb (x % 8) 0 h
 
 -- 29 told the other way round
 flipped : (b : Bool) → _≡_ {A = ℕ} (cond b 0 29) (cond (not b) 29 0)

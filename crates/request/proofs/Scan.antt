@@ -1,9 +1,8 @@
 -- What a pass over the segments has found so far, and how one more segment is taken in. Assumes nothing.
-use borrow.Author.Tests.{lt-ltb, le-ltb, eq-eqb, ne-eqb}
+use borrow.Author.Tests.{lt-ltb, le-ltb}
 use mathlib.Core.Path.{_≡_, refl, sym, _∙_}
-use mathlib.Core.Bool.{Bool, true, false, _&&_}
+use mathlib.Core.Bool.{Bool, true, false, _&&_, _||_}
 use mathlib.Core.List.{List, [], _∷_, _++_}
-use mathlib.Core.Logic.{_⊎_, ⊎-elim}
 use Prim.Native.Nat.{ℕ, _+_, _-_, _*_, _%_, _^_, _<_, _≤_}
 use native.Mathlib.Decide.{decLt}
 use native.Mathlib.Nat.{zero-add, mod-eq-of-lt}
@@ -18,20 +17,15 @@ use Rattle.model.specs.Ring.{Layout, segmentOf, segmentsOf}
 use Rattle.model.specs.Plan.{Extent, extentsFrom, extentWords}
 use Rattle.model.specs.declared.Segment.{Segment}
 use Rattle.request.specs.Segments.{grantedFor, passes, Scanned}
-use Rattle.request.proofs.Laws.{and-true, and-false, or-true, all-and, all-snoc, all-fails, length-segments, segments-snoc, within-total, total-snoc, length-extents, extents-snoc, words-snoc, words-add, take-put}
+use Rattle.request.proofs.Laws.{and-true, and-false, all-and, all-snoc, all-fails, length-segments, segments-snoc, within-total, total-snoc, length-extents, extents-snoc, words-snoc, words-add, take-put}
 
 -- ---- one segment
 
 module _ (need : ℕ) (grants : List ℕ) (s : Segment) where
-  pub passes-yes : isWithinFrame s ≡ true → s .frame < grantShare → (getD grants (s .frame) 0 ≡ 2) ⊎ (getD grants (s .frame) 0 ≡ need)
+  pub passes-yes : isWithinFrame s ≡ true → s .frame < grantShare → (eqb (getD grants (s .frame) 0) 2 || eqb (getD grants (s .frame) 0) need) ≡ true
       → passes need grants s ≡ true
   unfolding passes
-  passes-yes w f g =
-      rw (w, lt-ltb (s .frame) 1024 f)
-      (⊎-elim
-      (λ e. rw (eq-eqb (getD grants (s .frame) 0) 2 e))
-      (λ e. rw (eq-eqb (getD grants (s .frame) 0) need e) (or-true (eqb (getD grants (s .frame) 0) 2)))
-      g)
+  passes-yes w f g = rw (w, lt-ltb (s .frame) 1024 f, g)
 
   -- 26
   pub fails-within : isWithinFrame s ≡ false → passes need grants s ≡ false
@@ -44,9 +38,9 @@ module _ (need : ℕ) (grants : List ℕ) (s : Segment) where
   fails-frame h = rw (le-ltb (s .frame) 1024 h) (and-false (isWithinFrame s))
 
   -- 27: granted as nothing that serves
-  pub fails-grant : (getD grants (s .frame) 0 ≡ 2 → ⊥) → (getD grants (s .frame) 0 ≡ need → ⊥) → passes need grants s ≡ false
+  pub fails-grant : (eqb (getD grants (s .frame) 0) 2 || eqb (getD grants (s .frame) 0) need) ≡ false → passes need grants s ≡ false
   unfolding passes
-  fails-grant h k = rw (ne-eqb (getD grants (s .frame) 0) 2 h, ne-eqb (getD grants (s .frame) 0) need k, and-false (ltb (s .frame) 1024)) (and-false (isWithinFrame s))
+  fails-grant h = rw (h, and-false (ltb (s .frame) 1024)) (and-false (isWithinFrame s))
 
 -- segments that pass both checks pass each
 pub passes-each : (need : ℕ) (grants : List ℕ) (ss : List Segment)

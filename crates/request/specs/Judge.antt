@@ -1,6 +1,6 @@
 -- What the crate promises of a request in the bytes of a slot.
 use mathlib.Core.Path.{_≡_}
-use mathlib.Core.Bool.{false}
+use mathlib.Core.Bool.{Bool, false}
 use mathlib.Core.List.{List}
 use Prim.Native.Nat.{ℕ}
 use Rattle.model.specs.Ring.{Request, layoutOf, requestOf}
@@ -20,3 +20,7 @@ pub record Judged (p : Params) (grants slot : List ℕ) (v : Verdict) (words : L
 -- the plan of a flush or an empty barrier
 abbrev pub emptyStart : ℕ → Verdict
 emptyStart operation = Verdict.Start (record { operation = operation; start = 0; count = 0; secure = false; extents = 0 })
+
+-- the plan of a discard
+abbrev pub discardStart : ℕ → ℕ → Bool → Verdict
+discardStart start count secure = Verdict.Start (record { operation = 5; start = start; count = count; secure = secure; extents = 0 })

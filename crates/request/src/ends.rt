@@ -30,12 +30,17 @@ fn past_reason(sectors: u64, start: u64, count: u64) -> u32
     0
 }
 
-// 28, 29 or 0. Each sector size divides by a constant, so no divisor can be 0.
+// 28, 29 or 0. What keeps to the largest sector size keeps to all, which is tested first. Each sector size divides by a constant, so no divisor can be 0.
 pub fn end_reason(params: model::Params, start: u64, count: u64) -> u32
     ensures { λ r. ⌜ r ≡ endReason params start count ⌝ }
 {
     if past_reason(params.sectors, start, count) == 28 {
         return 28;
+    }
+    if start % 8 == 0 {
+        if count % 8 == 0 {
+            return 0;
+        }
     }
     let sector = params.sector;
     match sector {

@@ -5,9 +5,8 @@ ghost use lib.ListN.{length, getD};
 ghost use Rattle.model.specs.Buffers.{grantShare};
 ghost use Rattle.model.specs.Plan.{noWords};
 ghost use Rattle.model.specs.Ring.{layoutOf, requestOf};
-ghost use Rattle.request.specs.Judge.{requestIn, Judged, emptyStart};
+ghost use Rattle.request.specs.Judge.{requestIn, Judged, emptyStart, discardStart};
 ghost use Rattle.request.specs.Reasons.{headReason, refusal};
-ghost use Rattle.request.specs.Segments.{needFor};
 
 mod ends;
 mod extents;
@@ -67,14 +66,17 @@ fn wide(x: u8) -> u32
     x as u32
 }
 
-// The least grant byte that serves: a read has the frame written, so 1 is too little for it.
-fn need_of(operation: u8) -> u8
-    ensures { λ r. ⌜ r ≡ needFor operation ⌝ }
+// The plan of a discard.
+fn start_discard(start: u64, count: u64, secure: bool) -> model::Verdict
+    ensures { λ r. ⌜ r ≡ discardStart start count secure ⌝ }
 {
-    if operation == 0 {
-        return 2;
-    }
-    1
+    model::Verdict::Start(model::Plan {
+        operation: 5,
+        start: start,
+        count: count,
+        secure: secure,
+        extents: 0,
+    })
 }
 
 // A discard that passed the checks 21 to 25.
@@ -97,14 +99,10 @@ fn discard(
         return refuse(end, words);
     }
     extents::clear_from(words, 0);
-    let flag = slot[1];
-    model::Verdict::Start(model::Plan {
-        operation: 5,
-        start: start,
-        count: count,
-        secure: flag % 2 == 1,
-        extents: 0,
-    })
+    if slot[1] % 2 == 1 {
+        return start_discard(start, count, true);
+    }
+    start_discard(start, count, false)
 }
 
 // A read, write or barrier with segments that passed the checks 21 to 25.
@@ -117,15 +115,7 @@ fn data(params: model::Params, slot: &[u8; 112], grants: &[u8], words: &mut [u64
     let abi = params.abi;
     let at = layout::start_at(abi);
     let start = wire::u64_at(slot, at);
-    let count = segments::scan(
-        abi,
-        slot,
-        n as usize,
-        grants,
-        need_of(operation),
-        start,
-        words,
-    );
+    let count = segments::scan(abi, slot, n as usize, grants, operation, start, words);
     if count == 0 {
         return refuse(segments::fault_reason(abi, slot, n as usize), words);
     }

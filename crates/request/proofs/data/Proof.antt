@@ -19,7 +19,7 @@ use Rattle.request.proofs.data.Tie as tie
 
 -- where the function began, and the request
 abbrev entry : tie.After-scan → tie.Start
-entry x = x .before .before .before .before .before .before .before .before .before .before .before
+entry x = x .before .before .before .before .before .before .before .before .before .before
 
 abbrev asked : tie.Start → Request
 asked o = requestIn (o .args .params) (o .args .slot .now)
@@ -34,14 +34,14 @@ unfolding requestOf
 long o = length-segments (asked o .n) (layoutOf (o .args .params .abi)) (o .args .slot .now) 0
 
 -- what was read and found is the request's
-begins : (x : tie.After-scan) → x .before .before .before .u64-at .result ≡ asked (entry x) .start
+begins : (x : tie.After-scan) → x .before .before .u64-at .result ≡ asked (entry x) .start
 unfolding requestOf
-begins x = rw (x .before .before .before .before .before .start-at .ensures .0) at (x .before .before .before .u64-at .ensures)
+begins x = rw (x .before .before .before .before .start-at .ensures .0) at (x .before .before .u64-at .ensures)
 
 found : (x : tie.After-scan)
     → Scanned (needFor (asked (entry x) .pair .operation)) (entry x .args .grants .now) (asked (entry x) .start) (asked (entry x) .segments) (x .scan .result) (x .scan .last .1 .1 .1 .1 .1 .1 .0)
 unfolding requestOf
-found x = rw (x .before .before .need-of .ensures, x .before .before .before .before .before .before .wide .ensures, begins x) at (x .scan .ensures)
+found x = rw (x .before .before .before .before .before .wide .ensures, begins x) at (x .scan .ensures)
 
 element-copy-out-operation : tie.Need-element-copy-out-operation
 element-copy-out-operation c = search needs
@@ -61,19 +61,16 @@ u64-at-requires c κs = search needs
 cast-scan : tie.Need-cast-scan
 cast-scan c = search needs
 
-need-of-requires : tie.Need-need-of-requires
-need-of-requires c κs = search needs
-
 scan-requires : tie.Need-scan-requires
 unfolding requestOf
-scan-requires c κs = let o = c .before .before .before .before .before .before .before .before .before .before in omega (arith, few o, c .before .before .before .before .before .wide .ensures, o .pre .0)
+scan-requires c κs = let o = c .before .before .before .before .before .before .before .before .before in omega (arith, few o, c .before .before .before .before .wide .ensures, o .pre .0)
 
 cast-fault-reason : tie.Need-cast-fault-reason
 cast-fault-reason c = search needs
 
 fault-reason-requires : tie.Need-fault-reason-requires
 unfolding requestOf
-fault-reason-requires c κs = let x = c .before .before .before in let o = entry x in omega (arith, few o, x .before .before .before .before .before .before .wide .ensures, o .pre .0)
+fault-reason-requires c κs = let x = c .before .before .before in let o = entry x in omega (arith, few o, x .before .before .before .before .before .wide .ensures, o .pre .0)
 
 refuse-requires : tie.Need-refuse-requires
 refuse-requires c κs = search needs
@@ -90,7 +87,7 @@ returns c =
     let a = o .args in
     let r = asked o in
     let none = scan-none _ _ _ (r .segments) _ _ (found x) (rw (long o) (omega (arith, o .pre .3))) (done .before .before .before .if1 .taken) in
-    let why = rw (x .before .before .before .before .before .before .wide .ensures) at (done .before .before .fault-reason .ensures) in
+    let why = rw (x .before .before .before .before .before .wide .ensures) at (done .before .before .fault-reason .ensures) in
     judged-refused (a .params) (a .grants .now) (a .slot .now) _ _ _
     (data-fault (a .params) (a .grants .now) r (o .pre .1) (o .pre .2) (o .pre .3) none)
     (rw why at (done .refuse .ensures .0))
@@ -126,7 +123,7 @@ cast-clear-from c = search needs
 
 clear-from-requires : tie.Need-clear-from-requires
 unfolding requestOf
-clear-from-requires c κs = let x = c .before .before .before .before .before .before in let o = entry x in omega (arith, few o, x .before .before .before .before .before .before .wide .ensures, o .pre .0)
+clear-from-requires c κs = let x = c .before .before .before .before .before .before in let o = entry x in omega (arith, few o, x .before .before .before .before .before .wide .ensures, o .pre .0)
 
 same-length-3 : tie.Need-same-length-3
 same-length-3 c = search needs
@@ -141,7 +138,7 @@ returns-3 c =
     let p = a .params in
     let g = a .grants .now in
     let r = asked o in
-    let n = x .before .before .before .before .before .before .wide .ensures in
+    let n = x .before .before .before .before .before .wide .ensures in
     let some = scan-some _ _ _ (r .segments) _ _ (found x) (done .before .before .before .before .if1 .left) in
     let total = scan-count _ _ _ (r .segments) _ _ (found x) (done .before .before .before .before .if1 .left) in
     let end = sym (done .before .before .before .end-reason .ensures ∙ ap₂ (endReason p) (begins x) total) ∙ done .before .before .if2 .left in
@@ -164,7 +161,6 @@ data-spec =
     start-at-requires
     u64-at-requires
     cast-scan
-    need-of-requires
     scan-requires
     cast-fault-reason
     fault-reason-requires

@@ -1,6 +1,8 @@
 -- `request::discard` meets its contract: the end's reason, or the plan. Assumes nothing.
 use borrow.Author.Needs.{needs}
+use borrow.Author.Tests.{ne-eqb}
 use mathlib.Core.Path.{_≡_, refl, sym, ap, ap₂, _∙_}
+use Prim.Native.Nat.{_%_}
 use Rattle.model.specs.Ring.{Request, requestOf}
 use Rattle.model.specs.Plan.{extentWords}
 use Rattle.request.specs.Judge.{requestIn}
@@ -62,8 +64,11 @@ returns c =
 clear-from-requires : tie.Need-clear-from-requires
 clear-from-requires c κs = search needs
 
-element-copy-out-flag : tie.Need-element-copy-out-flag
-element-copy-out-flag c = search needs
+element-copy-out-if2 : tie.Need-element-copy-out-if2
+element-copy-out-if2 c = search needs
+
+start-discard-requires : tie.Need-start-discard-requires
+start-discard-requires c κs = search needs
 
 same-length-2 : tie.Need-same-length-2
 same-length-2 c = search needs
@@ -71,14 +76,33 @@ same-length-2 c = search needs
 returns-2 : tie.Need-returns-2
 unfolding requestOf extentWords
 returns-2 c =
-    let cleared = c .before .before .before in
+    let cleared = c .before .before .before .before .before in
     let e = cleared .before .before .before in
     let o = entry e in
     let a = o .args in
     let end = sym (e .end-reason .ensures ∙ ap₂ (endReason (a .params)) (begins e) (counts e)) ∙ cleared .before .before .if1 .left in
     judged-start (a .params) (a .grants .now) (a .slot .now) _ _ _
     (discard-start (a .params) (a .grants .now) (asked o) (o .pre .0) (o .pre .1) end)
-    (same-start 5 _ (begins e) (counts e) refl)
+    (c .start-discard .ensures ∙ rw (c .before .if2 .taken) (same-start 5 _ (begins e) (counts e) refl))
+    (cleared .clear-from .ensures ∙ ap (extentWords 11) (sym (discard-extents (a .params) (a .grants .now) (asked o) (o .pre .0) (o .pre .1))))
+
+start-discard-requires-2 : tie.Need-start-discard-requires-2
+start-discard-requires-2 c κs = search needs
+
+same-length-3 : tie.Need-same-length-3
+same-length-3 c = search needs
+
+returns-3 : tie.Need-returns-3
+unfolding requestOf extentWords
+returns-3 c =
+    let cleared = c .before .before .before .before .before in
+    let e = cleared .before .before .before in
+    let o = entry e in
+    let a = o .args in
+    let end = sym (e .end-reason .ensures ∙ ap₂ (endReason (a .params)) (begins e) (counts e)) ∙ cleared .before .before .if1 .left in
+    judged-start (a .params) (a .grants .now) (a .slot .now) _ _ _
+    (discard-start (a .params) (a .grants .now) (asked o) (o .pre .0) (o .pre .1) end)
+    (c .start-discard2 .ensures ∙ rw (ne-eqb (asked o .flag % 2) 1 (c .before .if2 .left)) (same-start 5 _ (begins e) (counts e) refl))
     (cleared .clear-from .ensures ∙ ap (extentWords 11) (sym (discard-extents (a .params) (a .grants .now) (asked o) (o .pre .0) (o .pre .1))))
 
 pub discard-spec : {M : Type 1} → statement M
@@ -94,6 +118,10 @@ discard-spec =
     same-length
     returns
     clear-from-requires
-    element-copy-out-flag
+    element-copy-out-if2
+    start-discard-requires
     same-length-2
-    returns-2)
+    returns-2
+    start-discard-requires-2
+    same-length-3
+    returns-3)

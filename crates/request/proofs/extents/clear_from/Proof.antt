@@ -25,6 +25,9 @@ loop-holds c =
     let none : a .from - a .from ≡ 0 = omega arith in
     (omega arith, omega arith, omega arith, rw none (sym (append-nil _)))
 
+mul-put : tie.Need-mul-put Inv-loop μ-loop
+mul-put c = search needs
+
 put-requires : tie.Need-put-requires Inv-loop μ-loop
 put-requires c κs = search needs
 
@@ -60,6 +63,7 @@ clear-from-spec =
     Inv-loop
     μ-loop
     loop-holds
+    mul-put
     put-requires
     add-i
     loop-less

@@ -6,9 +6,6 @@ use lib.ListN.{length-set}
 use Rattle.request.proofs.extents.put.Statement.{statement}
 use Rattle.request.proofs.extents.put.Tie as tie
 
-mul-at : tie.Need-mul-at
-mul-at c = search needs
-
 mul-words : tie.Need-mul-words
 mul-words c = search needs
 
@@ -52,7 +49,6 @@ pub put-spec : {M : Type 1} → statement M
 put-spec =
     tie.close
     (tie.spec
-    mul-at
     mul-words
     slice-write-words
     add-words

@@ -1,36 +1,44 @@
--- `request::segments::scan` meets its contract. The invariant: what a pass over the first i segments has found. Assumes nothing.
+-- `request::segments::scan` meets its contract. The invariant: what a pass over the segments before `place` has found. Assumes nothing.
 use borrow.Author.Needs.{needs}
-use mathlib.Core.Path.{_≡_}
-use mathlib.Core.Bool.{false}
+use borrow.Author.Tests.{not-true, not-false}
+use mathlib.Core.Path.{_≡_, sym, _∙_}
+use mathlib.Core.Bool.{false, true}
 use mathlib.Core.List.{List}
-use mathlib.Core.Logic.{_⊎_, inl, inr, ⊎-elim}
-use Prim.Native.Nat.{ℕ, _-_, _<_, _≤_}
+use Prim.Native.Nat.{ℕ, _+_, _-_, _*_, _/_, _<_, _≤_}
 use native.Mathlib.Omega.{arith}
-use lib.ListN.{getD}
 use Rattle.model.specs.Checks.{sectorsIn}
 use Rattle.model.specs.Ring.{layoutOf, segmentOf, segmentsOf}
 use Rattle.model.specs.declared.Segment.{Segment}
-use Rattle.request.specs.Segments.{passes, Scanned}
+use Rattle.request.specs.Segments.{needFor, passes, Scanned}
 use Rattle.request.proofs.Laws.{within-order, within-end, within-yes, length-segments}
 use Rattle.request.proofs.Scan.{Upto, upto-none, upto-next, upto-all, fails-within, fails-frame, fails-grant, fails-at, passes-yes}
 use Rattle.request.proofs.segments.scan.Statement.{statement}
 use Rattle.request.proofs.segments.scan.Tie as tie
 
 abbrev Inv-loop : tie.InvT-loop
-Inv-loop abi slot n grants need start words₀ sector₀ i₀ words sector i =
-    (i ≤ n) × Upto need grants start (segmentsOf i (layoutOf abi) slot 0) words sector
+Inv-loop abi slot n grants operation start words₀ sector₀ place₀ words sector place =
+    (place ≤ 4 * n) × (place ≡ 4 * (place / 4)) × Upto (needFor operation) grants start (segmentsOf (place / 4) (layoutOf abi) slot 0) words sector
 
 abbrev μ-loop : tie.MeasureT-loop
-μ-loop abi slot n grants need start words₀ sector₀ i₀ words sector i = n - i
+μ-loop abi slot n grants operation start words₀ sector₀ place₀ words sector place = 4 * n - place
 
 loop-holds : tie.Need-loop-holds Inv-loop μ-loop
 unfolding segmentsOf
 loop-holds c =
     let a = c .before .before .args in
-    (omega arith, upto-none (a .need) (a .grants .now) (a .start) (a .words .now) (omega arith) (omega arith))
+    (omega arith, omega arith, upto-none (needFor (a .operation)) (a .grants .now) (a .start) (a .words .now) (omega arith) (omega arith))
 
-segment-at-requires : tie.Need-segment-at-requires Inv-loop μ-loop
-segment-at-requires c κs = search needs
+mul-loop : tie.Need-mul-loop Inv-loop μ-loop
+mul-loop c = search needs
+
+segments-at-requires : tie.Need-segments-at-requires Inv-loop μ-loop
+segments-at-requires c κs = search needs
+
+mul-at : tie.Need-mul-at Inv-loop μ-loop
+mul-at c = search needs
+
+add-at : tie.Need-add-at Inv-loop μ-loop
+add-at c = search needs
 
 u32-at-requires : tie.Need-u32-at-requires Inv-loop μ-loop
 u32-at-requires c κs = search needs
@@ -47,19 +55,23 @@ add-last c = search needs
 element-copy-out-last : tie.Need-element-copy-out-last Inv-loop μ-loop
 element-copy-out-last c = search needs
 
--- where the function began, and segment i
-abbrev entry : tie.After-segment-at Inv-loop μ-loop → tie.Start Inv-loop μ-loop
+-- where the function began, and the segment at `place`
+abbrev entry : tie.After-segments-at Inv-loop μ-loop → tie.Start Inv-loop μ-loop
 entry g = g .before .before .before .before .before
 
-abbrev segment : tie.After-segment-at Inv-loop μ-loop → Segment
-segment g = segmentOf (layoutOf (entry g .args .abi)) (entry g .args .slot .now) (g .before .before .loop .i)
+abbrev segment : tie.After-segments-at Inv-loop μ-loop → Segment
+segment g = segmentOf (layoutOf (entry g .args .abi)) (entry g .args .slot .now) (g .before .before .loop .place / 4)
 
--- where segment i does not pass, the whole does not
-fails : (g : tie.After-segment-at Inv-loop μ-loop) (words : List ℕ) → passes (entry g .args .need) (entry g .args .grants .now) (segment g) ≡ false
-    → Scanned (entry g .args .need) (entry g .args .grants .now) (entry g .args .start) (segmentsOf (entry g .args .n) (layoutOf (entry g .args .abi)) (entry g .args .slot .now) 0) 0 words
+at-segment : (g : tie.After-segments-at Inv-loop μ-loop)
+    → g .segments-at .result + 2 * g .before .before .loop .place ≡ layoutOf (entry g .args .abi) .segmentsAt + 8 * (g .before .before .loop .place / 4)
+at-segment g = omega (arith, g .segments-at .ensures .0, g .before .before .loop .inv .1)
+
+-- where that segment does not pass, the whole does not
+fails : (g : tie.After-segments-at Inv-loop μ-loop) (words : List ℕ) → passes (needFor (entry g .args .operation)) (entry g .args .grants .now) (segment g) ≡ false
+    → Scanned (needFor (entry g .args .operation)) (entry g .args .grants .now) (entry g .args .start) (segmentsOf (entry g .args .n) (layoutOf (entry g .args .abi)) (entry g .args .slot .now) 0) 0 words
 fails g words =
-    fails-at (entry g .args .need) (entry g .args .grants .now) (entry g .args .start) (layoutOf (entry g .args .abi)) (entry g .args .slot .now)
-    (entry g .args .n) (g .before .before .loop .i) words (g .before .loop-test .taken)
+    fails-at (needFor (entry g .args .operation)) (entry g .args .grants .now) (entry g .args .start) (layoutOf (entry g .args .abi)) (entry g .args .slot .now)
+    (entry g .args .n) (g .before .before .loop .place / 4) words (omega (arith, g .before .loop-test .taken, g .before .before .loop .inv .1))
 
 same-length : tie.Need-same-length Inv-loop μ-loop
 same-length c = search needs
@@ -68,7 +80,7 @@ returns : tie.Need-returns Inv-loop μ-loop
 unfolding segmentOf
 returns c =
     let g = c .before .before .before .before .before in
-    fails g _ (fails-within _ _ (segment g) (within-order (segment g) (rw (g .segment-at .ensures .0) at (c .if1 .taken))))
+    fails g _ (fails-within _ _ (segment g) (within-order (segment g) (rw (at-segment g) at (c .if1 .taken))))
 
 same-length-2 : tie.Need-same-length-2 Inv-loop μ-loop
 same-length-2 c = search needs
@@ -77,8 +89,7 @@ returns-2 : tie.Need-returns-2 Inv-loop μ-loop
 unfolding segmentOf
 returns-2 c =
     let g = c .before .before .before .before .before .before in
-    let at-i = g .segment-at .ensures .0 in
-    fails g _ (fails-within _ _ (segment g) (within-end (segment g) (rw at-i at (c .before .if1 .left)) (rw at-i at (c .if2 .taken))))
+    fails g _ (fails-within _ _ (segment g) (within-end (segment g) (rw (at-segment g) at (c .before .if1 .left)) (rw (at-segment g) at (c .if2 .taken))))
 
 same-length-3 : tie.Need-same-length-3 Inv-loop μ-loop
 same-length-3 c = search needs
@@ -88,14 +99,17 @@ unfolding segmentOf
 returns-3 c =
     let u = c .before .before .before .before .before in
     let g = u .before .before in
-    let frame = rw (g .segment-at .ensures .0) at (u .u32-at .ensures) in
+    let frame = rw (at-segment g) at (u .u32-at .ensures) in
     fails g _ (fails-frame _ (entry g .args .grants .now) (segment g) (rw frame at (c .if3 .taken)))
 
-cast-grant : tie.Need-cast-grant Inv-loop μ-loop
-cast-grant c = search needs
+cast-serves : tie.Need-cast-serves Inv-loop μ-loop
+cast-serves c = search needs
 
-shared-slice-read-grant : tie.Need-shared-slice-read-grant Inv-loop μ-loop
-shared-slice-read-grant c = search needs
+shared-slice-read-serves : tie.Need-shared-slice-read-serves Inv-loop μ-loop
+shared-slice-read-serves c = search needs
+
+serves-requires : tie.Need-serves-requires Inv-loop μ-loop
+serves-requires c κs = search needs
 
 same-length-4 : tie.Need-same-length-4 Inv-loop μ-loop
 same-length-4 c = search needs
@@ -105,8 +119,8 @@ unfolding segmentOf
 returns-4 c =
     let u = c .before .before .before .before .before .before .before .before in
     let g = u .before .before in
-    let frame = rw (g .segment-at .ensures .0) at (u .u32-at .ensures) in
-    fails g _ (fails-grant _ (entry g .args .grants .now) (segment g) (rw frame at (c .before .if4 .taken)) (rw frame at (c .if5 .taken)))
+    let frame = rw (at-segment g) at (u .u32-at .ensures) in
+    fails g _ (fails-grant _ (entry g .args .grants .now) (segment g) (rw frame at (sym (c .before .serves .ensures) ∙ not-true _ (c .if4 .taken))))
 
 add-wide : tie.Need-add-wide Inv-loop μ-loop
 add-wide c = search needs
@@ -126,8 +140,8 @@ put-requires c κs = search needs
 wrapping-add-u64-requires : tie.Need-wrapping-add-u64-requires Inv-loop μ-loop
 wrapping-add-u64-requires c κs = search needs
 
-add-i : tie.Need-add-i Inv-loop μ-loop
-add-i c = search needs
+add-place : tie.Need-add-place Inv-loop μ-loop
+add-place c = search needs
 
 loop-less : tie.Need-loop-less Inv-loop μ-loop
 loop-less c = search needs
@@ -136,8 +150,8 @@ loop-again : tie.Need-loop-again Inv-loop μ-loop
 unfolding segmentOf sectorsIn
 loop-again c =
     let put = c .before .before .before in
-    let j = put .before .before .before .before in
-    let e3 = j .before .before in
+    let e4 = put .before .before .before .before in
+    let e3 = e4 .before .before .before in
     let e1 = e3 .before .before in
     let u = e1 .before .before .before in
     let g = u .before .before in
@@ -145,7 +159,7 @@ loop-again c =
     let a = o .args in
     let l = g .before .before .loop in
     let s = segment g in
-    let at-i = g .segment-at .ensures .0 in
+    let at-i = at-segment g in
     let frame : u .u32-at .result ≡ s .frame = rw at-i at (u .u32-at .ensures) in
     let low : s .first ≤ s .last = rw at-i at (e1 .if1 .left) in
     let high : s .last ≤ 7 = rw at-i at (e3 .before .if2 .left) in
@@ -153,13 +167,16 @@ loop-again c =
     let first : put .before .wide2 .result ≡ s .first = rw at-i at (put .before .wide2 .ensures) in
     let sum = rw at-i at (put .before .before .before .wide .ensures) in
     let len : put .before .before .before .wide .result ≡ sectorsIn s = omega arith in
-    let right : (getD (a .grants .now) (s .frame) 0 ≡ 2) ⊎ (getD (a .grants .now) (s .frame) 0 ≡ a .need) =
-    ⊎-elim (λ w. inr (rw frame at (w .1 .left))) (λ w. inl (rw frame at (w .left))) (j .if4 .came)
-    in (
-      omega arith,
-      rw (c .wrapping-add-u64 .ensures, put .put .ensures)
-          (upto-next (a .need) (a .grants .now) (a .start) (layoutOf (a .abi)) (a .slot .now) (l .i) (l .words) (l .sector) (l .inv .1) (omega (arith, g .before .loop-test .taken, o .pre .0))
-          (passes-yes (a .need) (a .grants .now) s (within-yes s low high) near right) _ _ _ frame first len),
+    let right = rw frame at (sym (e4 .before .serves .ensures) ∙ not-false _ (e4 .if4 .left)) in
+    let here : l .place ≡ 4 * (l .place / 4) = l .inv .1 in
+    let next : (l .place + 4) / 4 ≡ l .place / 4 + 1 = omega arith in
+    let more : l .place / 4 < a .n = omega (arith, g .before .loop-test .taken, here) in
+    let few : l .place / 4 < 11 = omega (arith, more, o .pre .0) in (
+      omega (arith, more, here),
+      omega (arith, next, here),
+      rw (c .wrapping-add-u64 .ensures, put .put .ensures, next)
+          (rw (← here) at (upto-next (needFor (a .operation)) (a .grants .now) (a .start) (layoutOf (a .abi)) (a .slot .now) (l .place / 4) (l .words) (l .sector) (l .inv .2) few
+          (passes-yes (needFor (a .operation)) (a .grants .now) s (within-yes s low high) near right) _ _ _ frame first len)),
     )
 
 wrapping-sub-u64-requires : tie.Need-wrapping-sub-u64-requires Inv-loop μ-loop
@@ -172,9 +189,9 @@ returns-5 : tie.Need-returns-5 Inv-loop μ-loop
 returns-5 c =
     let a = c .before .before .before .before .before .args in
     let l = c .before .before .loop in
-    let e : l .i ≡ a .n = omega arith in
-    upto-all (a .need) (a .grants .now) (a .start) (segmentsOf (a .n) (layoutOf (a .abi)) (a .slot .now) 0) (l .words) (l .sector) (c .wrapping-sub-u64 .result)
-    (rw e at (l .inv .1)) (omega (arith, length-segments (a .n) (layoutOf (a .abi)) (a .slot .now) 0)) (omega arith) (c .wrapping-sub-u64 .ensures) (omega arith)
+    let e : l .place / 4 ≡ a .n = omega arith in
+    upto-all (needFor (a .operation)) (a .grants .now) (a .start) (segmentsOf (a .n) (layoutOf (a .abi)) (a .slot .now) 0) (l .words) (l .sector) (c .wrapping-sub-u64 .result)
+    (rw e at (l .inv .2)) (omega (arith, length-segments (a .n) (layoutOf (a .abi)) (a .slot .now) 0)) (omega arith) (c .wrapping-sub-u64 .ensures) (omega arith)
 
 pub scan-spec : {M : Type 1} → statement M
 scan-spec =
@@ -183,7 +200,10 @@ scan-spec =
     Inv-loop
     μ-loop
     loop-holds
-    segment-at-requires
+    mul-loop
+    segments-at-requires
+    mul-at
+    add-at
     u32-at-requires
     add-first
     element-copy-out-first
@@ -195,8 +215,9 @@ scan-spec =
     returns-2
     same-length-3
     returns-3
-    cast-grant
-    shared-slice-read-grant
+    cast-serves
+    shared-slice-read-serves
+    serves-requires
     same-length-4
     returns-4
     add-wide
@@ -205,7 +226,7 @@ scan-spec =
     wide-requires-2
     put-requires
     wrapping-add-u64-requires
-    add-i
+    add-place
     loop-less
     loop-again
     wrapping-sub-u64-requires
