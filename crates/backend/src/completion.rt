@@ -63,8 +63,8 @@ fn finish(
     let status = ring::status_of(x.expected, result);
     let pair = x.pair;
     let params = p.params;
-    let notify = ring::respond(rings, k, params, p.produced, pair, status);
     release(memory, k, t, p);
+    let notify = ring::respond(rings, k, params, p.produced, pair, status);
     Completed::Done(PortId(k as u32), status, notify)
 }
 

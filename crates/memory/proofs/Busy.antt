@@ -14,7 +14,8 @@ use Rattle.model.specs.Backend.{holderOf}
 use Rattle.model.specs.declared.Params.{Params}
 use Rattle.model.specs.declared.Port.{Port}
 use Rattle.model.specs.declared.Tag.{Tag}
-use Rattle.model.proofs.Base.{by-cond, least-is, least-more, least-some, tally-same, tally-more}
+use Rattle.model.proofs.Base.{by-cond, least-is, least-more, least-some, tally-le, tally-same, tally-more}
+use Rattle.model.proofs.Busy.{ones-busy, ones-inFlight}
 use Rattle.memory.specs.Layout.{tags}
 
 -- ---- as the code has them
@@ -28,6 +29,15 @@ pub busy-shift : (t m : ℕ) → eqb (m / 2 ^ t % 2) 1 ≡ isBusy m t
 unfolding isBusy
 busy-shift zero m = rw div-one
 busy-shift (suc t) m = rw (pow-succ' 2 t, ← div-div-eq-div-mul) (busy-shift t (m / 2))
+
+-- m >> n == 0
+pub shifted-out : (n m : ℕ) → m / 2 ^ n ≡ 0 → m < 2 ^ n
+shifted-out zero m e = let z = rw div-one at e in omega arith
+shifted-out (suc n) m e = omega (arith, shifted-out n (m / 2) (rw (pow-succ' 2 n, ← div-div-eq-div-mul) at e))
+
+-- marks that are all below n are no more than n
+pub few-below : (n m : ℕ) → m < 2 ^ busyBits → m < 2 ^ n → inFlightOf m ≤ n
+few-below n m h l = omega (arith, ones-inFlight m h, ones-busy n m l, tally-le n (isBusy m))
 
 -- ---- the lowest that is clear
 

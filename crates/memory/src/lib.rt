@@ -9,11 +9,13 @@
 ghost use mathlib.Core.Path.{_≡_};
 ghost use mathlib.Core.Bool.{true, false, not};
 ghost use Prim.Native.Nat.{_+_, _<_, _≤_};
+ghost use lib.Dec.{leb};
 ghost use lib.ListN.{length};
 ghost use lib.Seq.{sets};
 ghost use Rattle.model.specs.Base.{least};
 ghost use Rattle.model.specs.Buffers.{ports};
 ghost use Rattle.model.specs.Port.{busyBits, isBusy, setBusy, clearBusy, inFlightOf};
+ghost use Rattle.model.specs.Ring.{ringOf};
 ghost use Rattle.memory.specs.Layout.{tags, stride, memoryWords};
 ghost use Rattle.memory.specs.Words.{word as wordAt, setWord, stateOf, stateWord, flagOf, flagWord, sectorOf, sectorWord, abiOf, abiWord, narrow32};
 ghost use Rattle.memory.specs.Words.{stateAt, consumedAt, producedAt, busyAt, wordsOf, portAt, setPort, tagWordsOf, tagAt, setTag, pointerAt, setPointer};
@@ -224,6 +226,24 @@ pub fn params(m: &[u64; WORDS], k: usize) -> model::Params
     }
 }
 
+// Params with port k's ring: what tells its layout and size is read, and nothing else.
+pub fn ring_params(m: &[u64; WORDS], k: usize) -> model::Params
+    requires { ⌜ k < ports ⌝ }
+    ensures { λ r. ⌜ ringOf r ≡ ringOf (portAt (now (m .entry)) k .params) ⌝ }
+{
+    let abi = abi_of(word(m, k, 8));
+    model::Params {
+        writable: false,
+        barrier: false,
+        flush: false,
+        discard: false,
+        secure: false,
+        sector: model::SectorSize::Bytes512,
+        sectors: 0,
+        abi: abi,
+    }
+}
+
 // ---- a port
 
 pub fn port_at(m: &[u64; WORDS], k: usize) -> model::Port
@@ -363,4 +383,15 @@ pub fn in_flight(marks: u64) -> u32
     ensures { λ r. ⌜ r ≡ inFlightOf marks ⌝ }
 {
     u64::count_ones(marks)
+}
+
+// Whether at most n tags are busy. Marks that are all below n need no counting: the lowest free tag is used first, so they often are.
+pub fn at_most(marks: u64, n: u32) -> bool
+    requires { ⌜ n < busyBits ⌝ }
+    ensures { λ r. ⌜ r ≡ leb (inFlightOf marks) n ⌝ }
+{
+    if marks >> n == 0 {
+        return true;
+    }
+    in_flight(marks) <= n
 }

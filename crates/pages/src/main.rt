@@ -81,11 +81,13 @@ fn pending(consumed: u32, produced: u32, busy: u64, published: u32) -> model::Pe
     let mut rings = [0u8; 32768];
     wire::put_u32(&mut rings, 12288, published);
     let d = ring::distance(ring::req_prod(&rings, 3), memory::consumed(&m, 3));
-    ring::pending(
-        memory::params(&m, 3),
-        memory::in_flight(memory::busy_marks(&m, 3)),
-        d,
-    )
+    if d == 0 {
+        return model::Pending::Nothing;
+    }
+    if service::overruns(memory::ring_params(&m, 3), memory::busy_marks(&m, 3), d) {
+        return model::Pending::Overrun;
+    }
+    model::Pending::Waits
 }
 
 fn index(consumed: u32, produced: u32, busy: u64, published: u32) {

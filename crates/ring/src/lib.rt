@@ -6,7 +6,7 @@ ghost use lib.ListN.{length};
 ghost use Rattle.wire.specs.LittleEndian.{store};
 ghost use Rattle.model.specs.Buffers.{ports, pageShare, ringsLength, pageOf, setPage};
 ghost use Rattle.model.specs.Ring.{layoutOf, ringOf, reqProd, setReqEvent, slotAt, statusBits, setResponse};
-ghost use Rattle.model.specs.Port.{distance as distanceOf, pendingOf, after};
+ghost use Rattle.model.specs.Port.{distance as distanceOf, after};
 ghost use Rattle.model.specs.Complete.{statusOf};
 ghost use Rattle.ring.specs.Promise.{Published, Responded, RespondedIn};
 
@@ -24,20 +24,6 @@ pub fn size(params: model::Params) -> u32
     ensures { λ r. ⌜ (r ≡ ringOf params .size) × (0 < r) × (r ≤ 64) ⌝ }
 {
     32
-}
-
-// What a distance says. The sum is taken at 64 bits: a distance may be any u32.
-pub fn pending(params: model::Params, inflight: u32, d: u32) -> model::Pending
-    ensures { λ r. ⌜ r ≡ pendingOf (ringOf params .size) inflight d ⌝ }
-{
-    if d == 0 {
-        return model::Pending::Nothing;
-    }
-    if d as u64 + inflight as u64 <= size(params) as u64 {
-        model::Pending::Waits
-    } else {
-        model::Pending::Overrun
-    }
 }
 
 // The slot of an index.

@@ -3,6 +3,7 @@ use mathlib.Core.Path.{_≡_, refl, sym, ap, _∙_}
 use mathlib.Core.Bool.{Bool, true, false, not, cond, _&&_}
 use mathlib.Core.List.{List}
 use Prim.Native.Nat.{ℕ, zero, suc, _+_, _-_, _%_, _^_, _≤_, _<_}
+use native.Mathlib.Decide.{decLt}
 use native.Mathlib.Omega.{arith}
 use lib.Dec.{eqb, leb}
 use borrow.Author.Tests.{eq-eqb, ne-eqb}
@@ -101,6 +102,49 @@ pick-on zero v rings k d e = absurd (d refl)
 pick-on (suc n) v rings k d e =
     let z : suc n - 1 ≡ n = omega arith in
     rw (z, seen-nothing (hasWork v rings k) (reqProd (pageOf rings k)) e)
+
+-- ---- how far the search has come
+
+-- the ports from k on, where the search began at f
+abbrev pub left : ℕ → ℕ → ℕ
+left f k = ports - (k + ports - f) % ports
+
+-- before it comes past port 7, and after that
+left-on : (f k : ℕ) → f ≤ k → k < ports → left f k ≡ ports + f - k
+left-on f k h l = let e : (k + ports - f) % ports ≡ k - f = omega arith in rw e (omega arith)
+
+left-round : (f k : ℕ) → k < f → f < ports → left f k ≡ f - k
+left-round f k h l = let e : (k + ports - f) % ports ≡ k + ports - f = omega arith in rw e (omega arith)
+
+pub left-all : (f : ℕ) → f < ports → left f f ≡ ports
+left-all f h = rw (left-on f f (omega arith) h) (omega arith)
+
+pub left-some : (f k : ℕ) → left f k ≡ 0 → ⊥
+left-some f k e = omega arith
+
+pub left-next : (f k : ℕ) → f < ports → k < ports → ((k + 1) % ports ≡ f → ⊥) → left f ((k + 1) % ports) ≡ left f k - 1
+left-next f k h l d =
+    elim (decLt k 7) [
+      | yes a ↦
+          let s : (k + 1) % ports ≡ k + 1 = omega arith in
+          let c = rw s at d in
+          rw s
+          (elim (decLt k f) [
+            | yes b ↦ rw (left-round f k b h, left-round f (k + 1) (omega arith) h) (omega arith)
+            | no b ↦ rw (left-on f k (omega arith) l, left-on f (k + 1) (omega arith) (omega arith)) (omega arith)
+          ])
+      | no a ↦
+          let s : (k + 1) % ports ≡ 0 = omega arith in
+          let c = rw s at d in
+          rw (s, left-on f k (omega arith) l, left-round f 0 (omega arith) h) (omega arith)
+    ]
+
+pub left-last : (f k : ℕ) → f < ports → k < ports → (k + 1) % ports ≡ f → left f k - 1 ≡ 0
+left-last f k h l e =
+    elim (decLt k 7) [
+      | yes a ↦ rw (left-round f k (omega arith) h) (omega arith)
+      | no a ↦ rw (left-on f k (omega arith) l) (omega arith)
+    ]
 
 -- it begins at the pointer
 pub pick-from : (m : List ℕ) → viewOf (backendOf m) .pointer ≡ pointerAt m

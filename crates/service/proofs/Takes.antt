@@ -3,11 +3,11 @@ use mathlib.Core.Path.{_≡_, refl, sym, ap, _∙_}
 use mathlib.Core.Bool.{Bool, true, false, not, cond, _&&_, _||_}
 use mathlib.Core.List.{List}
 use Prim.Native.Nat.{ℕ, zero, suc, _+_, _-_, _*_, _%_, _^_, _≤_, _<_}
-use native.Mathlib.Decide.{ℕ-discrete}
+use native.Mathlib.Decide.{ℕ-discrete, decLt}
 use native.Mathlib.Omega.{arith}
-use lib.Dec.{eqb, leb}
+use lib.Dec.{leb, ltb}
 use lib.ListN.{length}
-use borrow.Author.Tests.{ne-eqb, eqb-false, leb-true, not-false}
+use borrow.Author.Tests.{eq-eqb, ne-eqb, le-leb, lt-leb, lt-ltb, le-ltb, not-false}
 use Rattle.wire.specs.Part.{part}
 use Rattle.wire.proofs.Part.{part-part}
 use Rattle.model.specs.Backend.{viewOf, does}
@@ -37,7 +37,7 @@ use Rattle.request.proofs.Verdict.{verdict-head, few-segments}
 use Rattle.memory.specs.Abstract.{backendOf}
 use Rattle.memory.specs.Words.{portAt}
 use Rattle.memory.proofs.Abstract.{backend-port-at}
-use Rattle.service.specs.Serve.{Reads, Broke, Began, Declined, Turns, settledAt}
+use Rattle.service.specs.Serve.{Reads, Room, Broke, Began, Declined, Turns, settledAt}
 use Rattle.service.proofs.Picks.{view-pending}
 use Rattle.service.proofs.View.{view-consumed}
 
@@ -135,16 +135,28 @@ module _ (q : Params) (grants : List ℕ) (slot : List ℕ) (plan : Plan) (e : v
   pub expected-fits : expectedOf plan < 2 ^ 32
   expected-fits = let z : planOf (requestIn q slot) ≡ plan = cc (passed .1) in rw z at small
 
--- ---- a request waits only where a tag is free
+-- ---- what a distance says, from what the code tests
 
-pub waits-room : (size f d : ℕ) → Pending.Waits ≡ pendingOf size f d → f < size
-unfolding pendingOf
-waits-room size f d e = go (eqb d 0) refl (leb d (size - f)) refl e
-  where
-    go : (b : Bool) → eqb d 0 ≡ b → (t : Bool) → leb d (size - f) ≡ t → Pending.Waits ≡ cond b Pending.Nothing (cond t Pending.Waits Pending.Overrun) → f < size
-    go true x t y z = let w : _≡_ {A = ℕ} 0 1 = cc in absurd (omega arith)
-    go false x true y z = let w = eqb-false d 0 x in let v = leb-true d (size - f) y in omega arith
-    go false x false y z = let w : _≡_ {A = ℕ} 0 1 = cc in absurd (omega arith)
+module _ (size inFlight d : ℕ) where
+  nothing : d ≡ 0 → Pending.Nothing ≡ pendingOf size inFlight d
+  unfolding pendingOf
+  nothing e = rw (eq-eqb d 0 e)
+
+  waits : (d ≡ 0 → ⊥) → d + inFlight ≤ size → Pending.Waits ≡ pendingOf size inFlight d
+  unfolding pendingOf
+  waits n h = rw (ne-eqb d 0 n, le-leb d (size - inFlight) (omega arith))
+
+  overrun : (d ≡ 0 → ⊥) → size < d + inFlight → Pending.Overrun ≡ pendingOf size inFlight d
+  unfolding pendingOf
+  overrun n h = rw (ne-eqb d 0 n, lt-leb d (size - inFlight) (omega arith))
+
+-- the room beside the requests in flight, told from what a distance leaves
+pub beside : (size d f : ℕ) → d ≤ size → not (leb f (size - d)) ≡ ltb size (d + f)
+beside size d f h =
+    elim (decLt size (d + f)) [
+      | yes x ↦ rw (lt-leb f (size - d) (omega arith), lt-ltb size (d + f) x)
+      | no x ↦ rw (le-leb f (size - d) (omega arith), le-ltb size (d + f) (omega arith))
+    ]
 
 -- ---- a request taken, started or answered at once
 
@@ -175,28 +187,36 @@ module _ (m rings grants : List ℕ) (k : ℕ) (p : Port) (o : Reads m k p) (slo
 
 -- ---- serving, by what req_prod says
 
-module _ (m rings grants : List ℕ) (k published : ℕ) (p : Port) (o : Reads m k p) (e : published ≡ reqProd (pageOf rings k)) where
-  pub pending-seen : pendingOf (ringOf (p .params) .size) (inFlightOf (p .busy)) (distance published (p .consumed)) ≡ pendingAt (viewOf (backendOf m)) rings k
-  pending-seen = rw (e, o .read) (sym (view-pending m rings k (o .port)))
+module _ (m rings grants : List ℕ) (k published : ℕ) (h : k < ports) (e : published ≡ reqProd (pageOf rings k)) (w : hasWork (viewOf (backendOf m)) rings k ≡ true) where
+  abbrev far : ℕ
+  far = distance published (portAt m k .consumed)
 
-  pub nothing-served : hasWork (viewOf (backendOf m)) rings k ≡ true → Pending.Nothing ≡ pendingAt (viewOf (backendOf m)) rings k → ⊥
+  pending-seen : pendingOf (ringOf (portAt m k .params) .size) (inFlightOf (portAt m k .busy)) far ≡ pendingAt (viewOf (backendOf m)) rings k
+  pending-seen = rw e (sym (view-pending m rings k h))
+
+  -- there is something to serve
+  pub some : far ≡ 0 → ⊥
   unfolding hasWork
-  nothing-served w z = clash (isOpen (viewOf (backendOf m) .state k)) (rw (← z) at w)
+  some z = clash (isOpen (viewOf (backendOf m) .state k)) (rw (← nothing _ _ far z ∙ pending-seen) at w)
     where
       clash : (b : Bool) → b && false ≡ true → ⊥
       clash true x = let y : _≡_ {A = ℕ} 0 1 = cc in omega arith
       clash false x = let y : _≡_ {A = ℕ} 0 1 = cc in omega arith
 
-  pub waits-served : Pending.Waits ≡ pendingAt (viewOf (backendOf m)) rings k
+  -- a request waits only where a tag is free
+  pub waits-room : far + inFlightOf (portAt m k .busy) ≤ ringOf (portAt m k .params) .size → Room m k (portAt m k)
+  waits-room l = record { reads = record { port = h; read = refl }; room = omega (arith, some) }
+
+  pub waits-served : far + inFlightOf (portAt m k .busy) ≤ ringOf (portAt m k .params) .size
       → settledAt m rings grants k ≡ servedBy (viewOf (backendOf m)) rings grants k (pendingAt (viewOf (backendOf m)) rings k)
   unfolding servedBy
-  waits-served z = rw (← z)
+  waits-served l = rw (← waits _ _ far some l ∙ pending-seen)
 
-  pub overrun-served : (left words : List ℕ) (r : Turned) (after : List ℕ) → Pending.Overrun ≡ pendingAt (viewOf (backendOf m)) rings k → left ≡ rings → words ≡ noWords
-      → Broke m k r after
+  pub overrun-served : (left words : List ℕ) (r : Turned) (after : List ℕ) → ringOf (portAt m k .params) .size < far + inFlightOf (portAt m k .busy) → left ≡ rings
+      → words ≡ noWords → Broke m k r after
       → Turns m rings (servedBy (viewOf (backendOf m)) rings grants k (pendingAt (viewOf (backendOf m)) rings k)) left words r after
   unfolding servedBy overran does
-  overrun-served left words r after z u w b = record {
-    effect = rw (← z, b .answer, w, u);
+  overrun-served left words r after l u x b = record {
+    effect = rw (← overrun _ _ far some l ∙ pending-seen, b .answer, x, u);
     backend = rw (b .answer) (b .backend);
   }

@@ -41,18 +41,15 @@ fn look_at(memory: &[u64; WORDS], rings: &[u8], k: usize) -> Look
     }
 }
 
-// Looks at the ports in ring order from the pointer, and stops at the first with something to serve. Reads bytes 0 to 3 of the page of each
+// Looks at the ports in ring order from the pointer, and stops at the first with something to serve, or where it began. Reads bytes 0 to 3 of the page of each
 // open port that it comes to, once each.
 pub fn pick_port(memory: &[u64; WORDS], rings: &[u8]) -> Pick
     requires { ⌜ length (now rings) ≡ ringsLength ⌝ }
     ensures { λ r. ⌜ r ≡ picked (viewOf (backendOf (now (memory .entry)))) (now (rings .entry)) ⌝ }
 {
-    let mut k = memory::pointer(memory);
-    let mut left: usize = 8;
+    let first = memory::pointer(memory);
+    let mut k = first;
     loop {
-        if left == 0 {
-            break Pick::Nobody;
-        }
         let seen = look_at(memory, rings, k);
         match seen {
             Look::Work(published) => {
@@ -60,7 +57,9 @@ pub fn pick_port(memory: &[u64; WORDS], rings: &[u8]) -> Pick
             }
             Look::Nothing => {
                 k = (k + 1) % 8;
-                left -= 1;
+                if k == first {
+                    break Pick::Nobody;
+                }
             }
         }
     }

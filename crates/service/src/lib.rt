@@ -5,4 +5,5 @@ mod serving;
 pub use choice::Pick;
 pub use choice::pick_port;
 pub use serving::next_index;
+pub use serving::overruns;
 pub use serving::serve;

@@ -1,7 +1,7 @@
 // Serving a port: an overrun, or one request, started or answered at once.
 use memory::WORDS;
 use model::Pair;
-use model::Pending;
+use model::Params;
 use model::Plan;
 use model::Port;
 use model::PortId;
@@ -13,16 +13,18 @@ use model::TagId;
 use model::Turned;
 use model::Verdict;
 ghost use mathlib.Core.Path.{_≡_};
-ghost use Prim.Native.Nat.{_^_, _<_};
+ghost use Prim.Native.Nat.{_+_, _^_, _<_};
+ghost use lib.Dec.{ltb};
 ghost use lib.ListN.{length};
 ghost use Rattle.model.specs.Buffers.{ports, ringsLength};
 ghost use Rattle.model.specs.Complete.{expectedOf};
 ghost use Rattle.model.specs.Backend.{viewOf};
 ghost use Rattle.model.specs.Deeds.{portAfter};
-ghost use Rattle.model.specs.Port.{after};
+ghost use Rattle.model.specs.Port.{after, inFlightOf};
+ghost use Rattle.model.specs.Ring.{ringOf};
 ghost use Rattle.model.specs.Turn.{pendingAt, servedBy};
 ghost use Rattle.memory.specs.Abstract.{backendOf};
-ghost use Rattle.memory.specs.Words.{setPointer};
+ghost use Rattle.memory.specs.Words.{portAt, setPointer};
 ghost use Rattle.service.specs.Serve.{Reads, Room, Keeps, Broke, Began, Declined, Lent, Turns, settledAt, Waiting};
 
 // The index after i, modulo 2^32.
@@ -41,8 +43,8 @@ fn advance(memory: &mut [u64; WORDS], k: usize)
 }
 
 // The port is broken, and no page byte changes. Reads no guest byte.
-fn overrun(memory: &mut [u64; WORDS], k: usize, p: Port) -> Turned
-    requires { ⌜ Reads (now memory) k p ⌝ }
+fn overrun(memory: &mut [u64; WORDS], k: usize) -> Turned
+    requires { ⌜ k < ports ⌝ }
     ensures { λ r. ⌜ Broke (now (memory .entry)) k r (now (memory .exit)) ⌝ }
 {
     memory::known(memory);
@@ -110,29 +112,31 @@ fn decline(
 {
     memory::known(memory);
     let params = p.params;
-    let notify = ring::respond(rings, k, params, p.produced, pair, status);
+    let produced = memory::produced(memory, k);
+    let notify = ring::respond(rings, k, params, produced, pair, status);
     memory::set_consumed(memory, k, next_index(p.consumed));
-    memory::set_produced(memory, k, next_index(p.produced));
+    memory::set_produced(memory, k, next_index(produced));
     advance(memory, k);
     Turned::Answered(PortId(k as u32), reason, status, notify)
 }
 
 // Takes one request from port k and judges it. The 112 bytes of its slot are read once, into a copy; all that follows looks at the copy.
-// Of the page it reads no more than that and what `decline` reads.
+// Of the page it reads no more than that and what `decline` reads. The port's fields are read after the copy, each where it is used.
 fn take(
     memory: &mut [u64; WORDS],
     rings: &mut [u8],
     grants: &[u8],
     words: &mut [u64],
     k: usize,
-    p: Port,
 ) -> Turned
-    requires { ⌜ Room (now memory) k p × Lent (now rings) (now grants) × (length (now words) ≡ 44) ⌝ }
+    requires { ⌜ Room (now memory) k (portAt (now memory) k) × Lent (now rings) (now grants) × (length (now words) ≡ 44) ⌝ }
     ensures { λ r. ⌜ Turns (now (memory .entry)) (now (rings .entry)) (settledAt (now (memory .entry)) (now (rings .entry)) (now (grants .entry)) k) (now (rings .exit)) (now (words .exit)) r (now (memory .exit)) ⌝ }
 {
-    let params = p.params;
-    let at = 4096 * k + ring::slot_at(params, p.consumed);
+    let consumed = memory::consumed(memory, k);
+    let at = 4096 * k + ring::slot_at(memory::ring_params(memory, k), consumed);
     let slot = wire::copy_slot(rings, at);
+    let p = memory::port_at(memory, k);
+    let params = p.params;
     let from = 1024 * k;
     let end = from + 1024;
     let verdict = request::judge(params, &slot, &grants[from..end], words);
@@ -142,6 +146,18 @@ fn take(
         Verdict::Refused(reason, status) => decline(memory, rings, k, p, pair, reason, status),
         Verdict::Start(plan) => start(memory, k, p, pair, plan),
     }
+}
+
+// Whether a distance d is more than the ring has room for beside the requests in flight.
+pub fn overruns(params: Params, marks: u64, d: u32) -> bool
+    requires { ⌜ (d ≡ 0 → ⊥) ⌝ }
+    ensures { λ r. ⌜ r ≡ ltb (ringOf params .size) (d + inFlightOf marks) ⌝ }
+{
+    let size = ring::size(params);
+    if size < d {
+        return true;
+    }
+    !memory::at_most(marks, size - d)
 }
 
 // Serves port k, whose req_prod was read as `published`: an overrun breaks it, else its next request is taken.
@@ -157,16 +173,11 @@ pub fn serve(
     requires { ⌜ Waiting (now memory) (now rings) k published × Lent (now rings) (now grants) × (length (now words) ≡ 44) ⌝ }
     ensures { λ r. ⌜ Turns (now (memory .entry)) (now (rings .entry)) (servedBy (viewOf (backendOf (now (memory .entry)))) (now (rings .entry)) (now (grants .entry)) k (pendingAt (viewOf (backendOf (now (memory .entry)))) (now (rings .entry)) k)) (now (rings .exit)) (now (words .exit)) r (now (memory .exit)) ⌝ }
 {
-    let p = memory::port_at(memory, k);
-    let params = p.params;
-    let d = ring::distance(published, p.consumed);
-    let pending = ring::pending(params, memory::in_flight(p.busy), d);
-    match pending {
-        Pending::Nothing => Turned::Idle, // not met: the port has something to serve
-        Pending::Waits => take(memory, rings, grants, words, k, p),
-        Pending::Overrun => {
-            request::no_extents(words);
-            overrun(memory, k, p)
-        }
+    let d = ring::distance(published, memory::consumed(memory, k));
+    let marks = memory::busy_marks(memory, k);
+    if overruns(memory::ring_params(memory, k), marks, d) {
+        request::no_extents(words);
+        return overrun(memory, k);
     }
+    take(memory, rings, grants, words, k)
 }

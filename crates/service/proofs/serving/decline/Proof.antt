@@ -1,6 +1,6 @@
 -- `service::serving::decline` meets its contract, by the response given and three writes of the memory. Assumes nothing.
 use borrow.Author.Needs.{needs}
-use mathlib.Core.Path.{refl, sym, _∙_}
+use mathlib.Core.Path.{_≡_}
 use Rattle.service.proofs.View.{view-responded, view-notifies}
 use Rattle.service.proofs.Serves.{answered-left}
 use Rattle.service.proofs.serving.decline.Statement.{statement}
@@ -8,6 +8,9 @@ use Rattle.service.proofs.serving.decline.Tie as tie
 
 known-requires : tie.Need-known-requires
 known-requires c κs = search needs
+
+produced-requires : tie.Need-produced-requires
+produced-requires c κs = search needs
 
 respond-requires : tie.Need-respond-requires
 respond-requires c κs = search needs
@@ -27,8 +30,8 @@ set-produced-requires c κs = search needs
 advance-requires : tie.Need-advance-requires
 advance-requires c κs = search needs
 
-cast-t15 : tie.Need-cast-t15
-cast-t15 c = search needs
+cast-t17 : tie.Need-cast-t17
+cast-t17 c = search needs
 
 same-length : tie.Need-same-length
 same-length c = search needs
@@ -40,15 +43,17 @@ returns c =
     let consumed = raised .before .before in
     let took = consumed .before in
     let answered = took .before .before .before .before in
-    let known = answered .before .before .before in
+    let given = answered .before .before in
+    let known = given .before .before .before in
     let start = known .before .before .before in
     let a = start .args in
     let o = start .pre .0 in
+    let next : given .produced .result ≡ a .p .produced = rw (o .read) (given .produced .ensures) in
     record {
-      rings = rw (view-responded (a .memory .now) (a .k) (o .port) (a .rings .now) (a .pair) (a .status), ← o .read) (answered .respond .ensures .rings);
-      answer = rw (view-notifies (a .memory .now) (a .k) (o .port) (a .rings .now), ← o .read, answered .respond .ensures .notify);
+      rings = rw (view-responded (a .memory .now) (a .k) (o .port) (a .rings .now) (a .pair) (a .status), ← o .read) (rw next at (answered .respond .ensures .rings));
+      answer = rw (view-notifies (a .memory .now) (a .k) (o .port) (a .rings .now), ← o .read, rw next at (answered .respond .ensures .notify));
       backend =
-          rw (c .advance .ensures, produced .set-produced .ensures, raised .next-index2 .ensures, consumed .set-consumed .ensures, took .next-index .ensures)
+          rw (c .advance .ensures, produced .set-produced .ensures, raised .next-index2 .ensures, next, consumed .set-consumed .ensures, took .next-index .ensures)
           (answered-left (a .memory .now) (known .known .ensures) (a .k) (a .p) o);
     }
 
@@ -57,12 +62,13 @@ decline-spec =
     tie.close
     (tie.spec
     known-requires
+    produced-requires
     respond-requires
     next-index-requires
     set-consumed-requires
     next-index-requires-2
     set-produced-requires
     advance-requires
-    cast-t15
+    cast-t17
     same-length
     returns)

@@ -1,6 +1,7 @@
 -- `service::serving::overrun` meets its contract. Assumes nothing.
 use borrow.Author.Needs.{needs}
 use mathlib.Core.Path.{refl}
+use Rattle.memory.specs.Words.{portAt}
 use Rattle.service.proofs.Serves.{broken-left}
 use Rattle.service.proofs.serving.overrun.Statement.{statement}
 use Rattle.service.proofs.serving.overrun.Tie as tie
@@ -14,8 +15,8 @@ set-state-requires c κs = search needs
 advance-requires : tie.Need-advance-requires
 advance-requires c κs = search needs
 
-cast-t9 : tie.Need-cast-t9
-cast-t9 c = search needs
+cast-t8 : tie.Need-cast-t8
+cast-t8 c = search needs
 
 returns : tie.Need-returns
 returns c =
@@ -25,7 +26,7 @@ returns c =
     let a = start .args in
     record {
       answer = refl;
-      backend = rw (c .advance .ensures, set .set-state .ensures) (broken-left (a .memory .now) (known .known .ensures) (a .k) (a .p) (start .pre));
+      backend = rw (c .advance .ensures, set .set-state .ensures) (broken-left (a .memory .now) (known .known .ensures) (a .k) (portAt (a .memory .now) (a .k)) (record { port = start .pre; read = refl }));
     }
 
 pub overrun-spec : {M : Type 1} → statement M
@@ -35,5 +36,5 @@ overrun-spec =
     known-requires
     set-state-requires
     advance-requires
-    cast-t9
+    cast-t8
     returns)

@@ -4,39 +4,63 @@ use Prim.Native.Nat.{ℕ, _+_, _*_}
 use Rattle.wire.specs.Part.{part}
 use Rattle.model.specs.Buffers.{pageShare, grantsOf}
 use Rattle.model.specs.Plan.{wordsBeside}
+use Rattle.model.specs.Ring.{ringOf, slotAt}
 use Rattle.request.specs.Judge.{requestIn}
 use native.Mathlib.Omega.{arith}
 use native.Mathlib.Nat.{add-sub-cancel-left}
-use mathlib.Core.Path.{_≡_, refl, sym, ap, _∙_}
+use mathlib.Core.Path.{_≡_, refl, sym, ap, ap₂, _∙_}
+use Rattle.service.specs.Serve.{Reads}
 use Rattle.service.proofs.Takes.{slot-within, expected-fits, took-declined, took-started}
 use Rattle.service.proofs.serving.take.Statement.{statement}
 use Rattle.service.proofs.serving.take.Tie as tie
 
+-- where the slot is, by the port's fields
+placed-at : (x : tie.After-port-at)
+    → x .before .before .before .before .slot-at .result ≡ slotAt (ringOf (x .port-at .result .params)) (x .port-at .result .consumed)
+placed-at x =
+    let placed = x .before .before .before .before in
+    rw (x .port-at .ensures) (placed .slot-at .ensures ∙ ap₂ slotAt (placed .before .ring-params .ensures) (placed .before .before .before .consumed .ensures))
+
+-- and that it is the port's
+abbrev entry : tie.After-port-at → tie.Start
+entry x = x .before .before .before .before .before .before .before .before .before .before .before .before
+
+own : (x : tie.After-port-at) → Reads (entry x .args .memory .now) (entry x .args .k) (x .port-at .result)
+own x = record { port = entry x .pre .0 .reads .port; read = x .port-at .ensures }
+
+consumed-requires : tie.Need-consumed-requires
+consumed-requires c κs = search needs
+
 mul-at : tie.Need-mul-at
 mul-at c = search needs
+
+ring-params-requires : tie.Need-ring-params-requires
+ring-params-requires c κs = search needs
 
 slot-at-requires : tie.Need-slot-at-requires
 slot-at-requires c κs = search needs
 
 add-at : tie.Need-add-at
 add-at c =
-    let start = c .before .before .before .before .before in
-    let a = start .args in
+    let start = c .before .before .before .before .before .before .before .before in
     let h = start .pre .0 .reads .port in
-    record { fits = omega (arith, h, c .slot-at .ensures, slot-within (a .p .params) (a .p .consumed)) }
+    record { fits = omega (arith, h, c .slot-at .ensures, slot-within (c .before .ring-params .result) (c .before .before .before .consumed .result)) }
 
 copy-slot-requires : tie.Need-copy-slot-requires
 copy-slot-requires c κs =
-    let start = c .before .before .before .before .before .before in
-    let a = start .args in
+    let placed = c .before in
+    let start = placed .before .before .before .before .before .before .before .before in
     let h = start .pre .0 .reads .port in
-    omega (arith, h, start .pre .1 .pages, c .before .slot-at .ensures, slot-within (a .p .params) (a .p .consumed))
+    omega (arith, h, start .pre .1 .pages, placed .slot-at .ensures, slot-within (placed .before .ring-params .result) (placed .before .before .before .consumed .result))
+
+port-at-requires : tie.Need-port-at-requires
+port-at-requires c κs = search needs
 
 mul-from : tie.Need-mul-from
-mul-from c = search needs
+mul-from c = let h = c .before .before .before .before .before .before .before .before .before .before .before .before .before .pre .0 .reads .port in record { fits = omega (arith, h) }
 
 add-end : tie.Need-add-end
-add-end c = search needs
+add-end c = let h = c .before .before .before .before .before .before .before .before .before .before .before .before .before .pre .0 .reads .port in record { fits = omega (arith, h) }
 
 sub-judge : tie.Need-sub-judge
 sub-judge c = search needs
@@ -45,7 +69,7 @@ part-judge-start : tie.Need-part-judge-start
 part-judge-start c = search needs
 
 part-judge-end : tie.Need-part-judge-end
-part-judge-end c = search needs
+part-judge-end c = let h = c .before .before .before .before .before .before .before .before .before .before .before .before .before .before .pre .0 .reads .port in search needs
 
 judge-requires : tie.Need-judge-requires
 judge-requires c κs = search needs
@@ -57,7 +81,7 @@ enum-known-verdict : tie.Need-enum-known-verdict
 enum-known-verdict c = search needs
 
 decline-requires : tie.Need-decline-requires
-decline-requires c κs = search needs
+decline-requires c κs = let x = c .before .before .before .before .before .before .before .before .before .before .before .before .before .before in (own x, entry x .pre .1 .pages)
 
 enum-known-verdict-2 : tie.Need-enum-known-verdict-2
 enum-known-verdict-2 c = search needs
@@ -65,8 +89,8 @@ enum-known-verdict-2 c = search needs
 start-requires : tie.Need-start-requires
 start-requires c κs =
     let judged = c .before .before .before .before .before .before .before .before in
-    let start = judged .before .before .before .before .before .before .before .before .before .before .before in
-    (start .pre .0, expected-fits _ _ _ _ (sym (judged .judge .ensures .verdict) ∙ c .before .before .verdict2 .given .1))
+    let x = judged .before .before .before .before .before in
+    (rw (x .port-at .ensures) (entry x .pre .0), expected-fits _ _ _ _ (sym (judged .judge .ensures .verdict) ∙ c .before .before .verdict2 .given .1))
 
 same-length : tie.Need-same-length
 same-length c = search needs
@@ -81,16 +105,15 @@ returns c =
     let told = done .before .before .before .before in
     let paired = told .before .before in
     let judged = paired .before .before .before .before in
-    let copied = judged .before .before .before .before in
-    let placed = copied .before .before in
-    let start = placed .before .before .before .before .before in
-    let a = start .args in
+    let x = judged .before .before .before .before .before in
+    let copied = x .before .before in
+    let a = entry x .args in
     let said = judged .judge .ensures in
-    took-declined (a .memory .now) (a .rings .now) (a .grants .now) (a .k) (a .p) (start .pre .0 .reads) (copied .copy-slot .result)
-    (copied .copy-slot .ensures ∙ ap (λ (i : ℕ). part 112 (a .rings .now) (pageShare * a .k + i)) (placed .slot-at .ensures))
+    took-declined (a .memory .now) (a .rings .now) (a .grants .now) (a .k) (x .port-at .result) (own x) (copied .copy-slot .result)
+    (copied .copy-slot .ensures ∙ ap (λ (i : ℕ). part 112 (a .rings .now) (pageShare * a .k + i)) (placed-at x))
     (judged .judge .result) (rw add-sub-cancel-left at (said .verdict))
     (paired .pair-of .result) (paired .pair-of .ensures)
-    _ _ (said .beside ∙ ap (wordsBeside (requestIn (a .p .params) (copied .copy-slot .result))) (sym (said .verdict)))
+    _ _ (said .beside ∙ ap (wordsBeside (requestIn (x .port-at .result .params) (copied .copy-slot .result))) (sym (said .verdict)))
     _ _ _ _ (told .verdict .given .1) (done .decline .ensures)
 
 same-length-3 : tie.Need-same-length-3
@@ -105,26 +128,28 @@ returns-2 c =
     let told = c .before .before .before in
     let paired = told .before .before in
     let judged = paired .before .before .before .before in
-    let copied = judged .before .before .before .before in
-    let placed = copied .before .before in
-    let start = placed .before .before .before .before .before in
-    let a = start .args in
+    let x = judged .before .before .before .before .before in
+    let copied = x .before .before in
+    let a = entry x .args in
     let said = judged .judge .ensures in
-    took-started (a .memory .now) (a .rings .now) (a .grants .now) (a .k) (a .p) (start .pre .0 .reads) (copied .copy-slot .result)
-    (copied .copy-slot .ensures ∙ ap (λ (i : ℕ). part 112 (a .rings .now) (pageShare * a .k + i)) (placed .slot-at .ensures))
+    took-started (a .memory .now) (a .rings .now) (a .grants .now) (a .k) (x .port-at .result) (own x) (copied .copy-slot .result)
+    (copied .copy-slot .ensures ∙ ap (λ (i : ℕ). part 112 (a .rings .now) (pageShare * a .k + i)) (placed-at x))
     (judged .judge .result) (rw add-sub-cancel-left at (said .verdict))
     (paired .pair-of .result) (paired .pair-of .ensures)
-    _ _ (said .beside ∙ ap (wordsBeside (requestIn (a .p .params) (copied .copy-slot .result))) (sym (said .verdict)))
+    _ _ (said .beside ∙ ap (wordsBeside (requestIn (x .port-at .result .params) (copied .copy-slot .result))) (sym (said .verdict)))
     _ _ _ (told .verdict2 .given .1) refl (c .start .ensures)
 
 pub take-spec : {M : Type 1} → statement M
 take-spec =
     tie.close
     (tie.spec
+    consumed-requires
     mul-at
+    ring-params-requires
     slot-at-requires
     add-at
     copy-slot-requires
+    port-at-requires
     mul-from
     add-end
     sub-judge
