@@ -121,7 +121,7 @@ fn decline(
 }
 
 // Takes one request from port k and judges it. The 112 bytes of its slot are read once, into a copy; all that follows looks at the copy.
-// Of the page it reads no more than that and what `decline` reads. The port's fields are read after the copy, each where it is used.
+// Of the page it reads no more than that and what `decline` reads. But for C and the layout, the port is read after the copy.
 fn take(
     memory: &mut [u64; WORDS],
     rings: &mut [u8],
