@@ -2,7 +2,7 @@
 .PHONY: demo
 demo: target/staticlib/libkernelharp.a
 	@tests/need-rust
-	@cargo run --release --quiet --manifest-path host/Cargo.toml --bin demo
+	@cargo run --release --quiet --manifest-path host/Cargo.toml --package demo
 
 # make test: every check, proof and test. Its last line is the verdict.
 .PHONY: test

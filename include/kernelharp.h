@@ -12,6 +12,11 @@
  *
  * A call sees the rings as they are at that call. Guests may write them between calls; while a call runs they must not,
  * so a host whose guests can do so lends a copy.
+ *
+ * Names. What a call or a word of an answer says is KH_ and its own name (KH_NOT_BUSY, KH_READ_ONLY, KH_STARTED); the
+ * Rattle and Rust sources spell the same names NotBusy, ReadOnly, Started. What is handed in has its kind first
+ * (KH_NODE_MODE, KH_GRANT_READ), and so have the places of words (KH_TURN_PORT, KH_DONE_PORT, KH_EXTENT_FRAME). Sizes
+ * end in their unit (KH_RING_BYTES), counts are plurals (KH_PORTS), and a page's indices are called as in ring.h.
  */
 #ifndef KERNELHARP_H
 #define KERNELHARP_H
@@ -23,6 +28,15 @@
 #ifdef __cplusplus
 extern "C" {
 #endif
+
+/*
+ * The version: major * 10000 + minor * 100 + patch. kh_version gives the archive's, kh_memory_words its
+ * KH_MEMORY_WORDS. A host asks for both at its start and makes no other call when one of them is not the header's: the
+ * header and the archive are then not of one release, or not built for the same memory.
+ */
+#define KH_VERSION 200 /* 0.2.0 */
+uint32_t kh_version(void);
+uint32_t kh_memory_words(void);
 
 /* Sizes of what a host lends. */
 #define KH_PORTS        8     /* ports 0 to 7, one guest disk each */
@@ -70,18 +84,18 @@ enum kh_node {
 
 /* What a call returns. */
 enum kh_refusal {
-    KH_DONE = 0,
-    KH_WRONG_LENGTH = 1,    /* rings or grants of the wrong length (turn, complete) */
-    KH_PORT_ABOVE_7 = 2,    /* (open, close, complete) */
-    KH_PORT_NOT_CLOSED = 3, /* (open) */
-    KH_PORT_CLOSED = 4,     /* (close, complete) */
-    KH_IN_FLIGHT = 5,       /* requests in flight (close) */
-    KH_NOT_BUSY = 6,        /* tag above 31, not busy, or busy with another serial (complete) */
-    KH_SHEET_SHAPE = 11,    /* sheet empty, more than 9 entries, a reserved byte not 0, wrong total length (open) */
-    KH_SHEET_NODES = 12,    /* node 0, above 9, or not rising (open) */
-    KH_SHEET_TEXT = 13,     /* nodes 1 to 5 and 8: any other text; 6, 7 and 9: no number (open) */
-    KH_SHEET_NUMBER = 14,   /* nodes 6, 7 and 9: a number that is not allowed there (open) */
-    KH_SHEET_MISSING = 15   /* node 1, 6 or 7 missing (open) */
+    KH_OK = 0,            /* done: no refusal */
+    KH_WRONG_LENGTH = 1,  /* rings or grants of the wrong length (turn, complete) */
+    KH_NO_PORT = 2,       /* a port above 7 (open, close, complete) */
+    KH_NOT_CLOSED = 3,    /* the port is open or broken (open) */
+    KH_IS_CLOSED = 4,     /* the port is closed (close, complete) */
+    KH_IN_FLIGHT = 5,     /* requests in flight (close) */
+    KH_NOT_BUSY = 6,      /* tag above 31, not busy, or busy with another serial (complete) */
+    KH_SHEET_SHAPE = 11,  /* sheet empty, more than 9 entries, a reserved byte not 0, wrong total length (open) */
+    KH_SHEET_NODES = 12,  /* a node 0 or above 9, or no greater than the one before (open) */
+    KH_SHEET_TEXT = 13,   /* nodes 1 to 5 and 8: any other text; 6, 7 and 9: no number (open) */
+    KH_SHEET_NUMBER = 14, /* nodes 6, 7 and 9: a number that is not allowed there (open) */
+    KH_SHEET_MISSING = 15 /* node 1, 6 or 7 missing (open) */
 };
 
 /* What a turn did. */
@@ -103,14 +117,14 @@ enum kh_operation {
 /* Why a guest's request was answered at once: the first check that it failed. */
 enum kh_reason {
     KH_UNKNOWN_OPERATION = 21, /* status not supported, as with 22 and 23; error with all others */
-    KH_FEATURE_OFF = 22,       /* barrier, flush or discard with its feature 0 */
+    KH_FEATURE_OFF = 22,       /* the feature of a barrier, flush or discard is 0 */
     KH_SECURE_OFF = 23,        /* secure discard with discard-secure 0 */
     KH_READ_ONLY = 24,         /* write, barrier or discard in mode r */
-    KH_BAD_COUNT = 25,         /* number of segments not allowed for the operation, or a discard of 0 sectors */
-    KH_BAD_SEGMENT = 26,       /* a segment without first <= last <= 7 */
+    KH_WRONG_AMOUNT = 25,      /* number of segments not allowed for the operation, or a discard of 0 sectors */
+    KH_WRONG_SEGMENT = 26,     /* a segment without first <= last <= 7 */
     KH_NOT_GRANTED = 27,       /* a frame not granted as needed: a read needs KH_GRANT_READ_WRITE, others either */
     KH_PAST_END = 28,          /* start + count above the node sectors */
-    KH_MISALIGNED = 29         /* start or count no multiple of sector-size / 512 */
+    KH_UNALIGNED = 29          /* start or count no multiple of sector-size / 512 */
 };
 
 /* A response's status, as on the ring. The answers' words hold its magnitude. */
@@ -155,9 +169,6 @@ typedef struct {
     uint64_t words[KH_MEMORY_WORDS];
 } kh_memory;
 
-/* KH_MEMORY_WORDS as the archive was built, so that a host can refuse a header and an archive that don't match. */
-uint32_t kh_memory_words(void);
-
 /*
  * Opens a closed port for the disk that the sheet describes: indices 0, nothing in flight. The ring page is not
  * touched.
@@ -168,10 +179,10 @@ uint32_t kh_memory_words(void);
  *
  * Refusals: 2, 3, then of the sheet 11, 12, 13 or 14 (the first body at fault), 15.
  */
-uint32_t kh_open(uint64_t *memory, uint32_t port, const uint8_t *sheet, size_t sheet_bytes);
+uint32_t kh_open(kh_memory *memory, uint32_t port, const uint8_t *sheet, size_t sheet_bytes);
 
 /* Closes a port, open or broken, that has no requests in flight. Refusals: 2, 4, 5. */
-uint32_t kh_close(uint64_t *memory, uint32_t port);
+uint32_t kh_close(kh_memory *memory, uint32_t port);
 
 /*
  * Serves one port: the first with something to serve, in ring order from the port after the one served last (port 0 at
@@ -184,7 +195,7 @@ uint32_t kh_close(uint64_t *memory, uint32_t port);
  *
  * Refusals: 1.
  */
-uint32_t kh_turn(uint64_t *memory, uint8_t *rings, size_t rings_bytes, const uint8_t *grants, size_t grants_bytes,
+uint32_t kh_turn(kh_memory *memory, uint8_t *rings, size_t rings_bytes, const uint8_t *grants, size_t grants_bytes,
                  uint64_t *answer);
 
 /*
@@ -199,8 +210,8 @@ uint32_t kh_turn(uint64_t *memory, uint8_t *rings, size_t rings_bytes, const uin
  *
  * Refusals: 1 (the rings), 2, 4, 6.
  */
-uint32_t kh_complete(uint64_t *memory, uint8_t *rings, size_t rings_bytes, uint32_t port, uint32_t tag, uint32_t serial,
-                     int32_t result, uint64_t *answer);
+uint32_t kh_complete(kh_memory *memory, uint8_t *rings, size_t rings_bytes, uint32_t port, uint32_t tag,
+                     uint32_t serial, int32_t result, uint64_t *answer);
 
 /* A run of sectors in one frame, and where on the disk it goes. */
 typedef struct {

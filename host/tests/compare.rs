@@ -12,9 +12,9 @@
 //! A failure prints the two settings that run its list again up to the call at fault. More calls of
 //! another seed: `KH_SEED=7 KH_CALLS=50000000 cargo test --release --test compare -- --nocapture`.
 
-use kernelharp_host::generate::{run, Census, Core, Failure, Report};
-use kernelharp_host::reference::Backend;
-use kernelharp_host::Memory;
+use generate::{run, Census, Core, Failure, Report};
+use kernelharp::Memory;
+use second::Backend;
 use std::time::Instant;
 
 const SEED: u64 = 20_010_000;

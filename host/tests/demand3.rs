@@ -1,10 +1,11 @@
 //! The checker of demand 3 says no where it has to: histories made by hand, no backend in them.
 
-mod common;
-
-use common::usual_sheet;
-use kernelharp_host::demand3::{Event, History};
-use kernelharp_host::reference::{DONE_WORDS, GRANTS_BYTES, RINGS_BYTES, TURN_WORDS};
+use history::{Event, History};
+use kernelharp::layout::{
+    slot_at, write_u32, GRANTS_BYTES, PAGE_BYTES, REQ_EVENT, REQ_PROD, RINGS_BYTES,
+};
+use kernelharp::words::{done, kind, turn, DONE_WORDS, TURN_WORDS};
+use tests::usual_sheet;
 
 /// A history with the first `ports` ports open, and the rings lent to it. All requests are
 /// zeros: the pair (0, 0), which zeros in a response answer.
@@ -39,17 +40,20 @@ impl Story {
     }
 
     fn set(&mut self, port: usize, at: usize, value: u32) {
-        self.rings[4096 * port + at..][..4].copy_from_slice(&value.to_le_bytes());
+        write_u32(&mut self.rings, PAGE_BYTES * port + at, value);
         self.left.clone_from(&self.rings);
     }
 
-    fn req_prod(&mut self, port: usize, value: u32) {
-        self.set(port, 0, value);
+    fn publish_up_to(&mut self, port: usize, value: u32) {
+        self.set(port, REQ_PROD, value);
     }
 
-    fn turn(&mut self, words: &[u64]) -> Checked {
+    /// A turn whose answer has these words, and zeros.
+    fn turn(&mut self, words: &[(usize, u64)]) -> Checked {
         let mut answer = [0; TURN_WORDS];
-        answer[..words.len()].copy_from_slice(words);
+        for &(at, word) in words {
+            answer[at] = word;
+        }
         let checked = self.history.check(&Event::Turn {
             lent: &self.rings,
             left: &self.left,
@@ -63,16 +67,29 @@ impl Story {
 
     /// A turn that answers a request with a reason.
     fn answered(&mut self, port: u64) -> Checked {
-        self.turn(&[2, port])
+        self.turn(&[(turn::KIND, kind::ANSWERED), (turn::PORT, port)])
     }
 
     fn started(&mut self, port: u64, tag: u64, serial: u64) -> Checked {
-        self.turn(&[1, port, tag, serial])
+        self.turn(&[
+            (turn::KIND, kind::STARTED),
+            (turn::PORT, port),
+            (turn::TAG, tag),
+            (turn::SERIAL, serial),
+        ])
+    }
+
+    fn overrun(&mut self, port: u64) -> Checked {
+        self.turn(&[(turn::KIND, kind::OVERRUN), (turn::PORT, port)])
+    }
+
+    fn idle(&mut self) -> Checked {
+        self.turn(&[(turn::KIND, kind::IDLE)])
     }
 
     fn complete(&mut self, port: u32, tag: u32, serial: u32, code: u32) -> Checked {
         let mut answer = [0; DONE_WORDS];
-        answer[0] = u64::from(port);
+        answer[done::PORT] = u64::from(port);
         self.history.check(&Event::Complete {
             lent: &self.rings,
             left: &self.left,
@@ -96,7 +113,7 @@ fn faulty(checked: Checked, words: &str) {
 fn another_port_served_twice() {
     let mut story = Story::new(3);
     for port in 0..3 {
-        story.req_prod(port, 9);
+        story.publish_up_to(port, 9);
     }
     story.answered(1).unwrap();
     story.answered(0).unwrap();
@@ -106,12 +123,12 @@ fn another_port_served_twice() {
 #[test]
 fn a_port_with_nothing_for_a_turn_starts_anew() {
     let mut story = Story::new(2);
-    story.req_prod(0, 9);
-    story.req_prod(1, 9);
+    story.publish_up_to(0, 9);
+    story.publish_up_to(1, 9);
     story.answered(0).unwrap();
-    story.req_prod(1, 0);
+    story.publish_up_to(1, 0);
     story.answered(0).unwrap();
-    story.req_prod(1, 9);
+    story.publish_up_to(1, 9);
     story.answered(0).unwrap();
     faulty(story.answered(0), "port 1: port 0 is served twice");
 }
@@ -119,8 +136,8 @@ fn a_port_with_nothing_for_a_turn_starts_anew() {
 #[test]
 fn reopening_does_not_start_the_wait_anew() {
     let mut story = Story::new(2);
-    story.req_prod(0, 9);
-    story.req_prod(1, 9);
+    story.publish_up_to(0, 9);
+    story.publish_up_to(1, 9);
     story.answered(0).unwrap();
     story.close(1, 0).unwrap();
     story.open(1, 0).unwrap();
@@ -131,7 +148,7 @@ fn reopening_does_not_start_the_wait_anew() {
 fn all_others_once_is_fair() {
     let mut story = Story::new(8);
     for port in 0..8 {
-        story.req_prod(port, 9);
+        story.publish_up_to(port, 9);
     }
     for port in [3, 1, 0, 7, 6, 2, 4] {
         story.answered(port).unwrap();
@@ -143,48 +160,48 @@ fn all_others_once_is_fair() {
 #[test]
 fn idle_against_the_rule() {
     let mut story = Story::new(1);
-    faulty(story.turn(&[0]), "an idle turn");
+    faulty(story.idle(), "an idle turn");
     let mut story = Story::new(1);
-    story.left[4] = 1;
-    story.turn(&[0]).unwrap();
-    story.req_prod(0, 1);
-    faulty(story.turn(&[0]), "idle, but port 0");
+    story.left[REQ_EVENT] = 1;
+    story.idle().unwrap();
+    story.publish_up_to(0, 1);
+    faulty(story.idle(), "idle, but port 0");
 }
 
 #[test]
 fn served_with_nothing() {
     faulty(Story::new(1).answered(0), "with nothing to serve");
     let mut story = Story::new(1);
-    story.req_prod(1, 1);
+    story.publish_up_to(1, 1);
     faulty(story.answered(1), "with nothing to serve");
     let mut story = Story::new(1);
-    story.req_prod(0, 1);
+    story.publish_up_to(0, 1);
     faulty(story.answered(8), "names port 8");
-    faulty(story.turn(&[4]), "kind 4");
+    faulty(story.turn(&[(turn::KIND, 4)]), "kind 4");
 }
 
 #[test]
 fn overrun_against_the_rule() {
     let mut story = Story::new(1);
-    story.req_prod(0, 32);
-    faulty(story.turn(&[3, 0]), "not due");
+    story.publish_up_to(0, 32);
+    faulty(story.overrun(0), "not due");
     let mut story = Story::new(1);
-    story.req_prod(0, 33);
+    story.publish_up_to(0, 33);
     faulty(story.answered(0), "an overrun was due");
     let mut story = Story::new(1);
-    story.req_prod(0, 33);
-    story.turn(&[3, 0]).unwrap();
+    story.publish_up_to(0, 33);
+    story.overrun(0).unwrap();
     // Broken: nothing to serve, not armed, not closed.
-    story.turn(&[0]).unwrap();
+    story.idle().unwrap();
     faulty(story.open(0, 0), "due was 3");
 }
 
 #[test]
 fn overrun_counts_what_is_in_flight() {
     let mut story = Story::new(1);
-    story.req_prod(0, 32);
+    story.publish_up_to(0, 32);
     story.started(0, 0, 0).unwrap();
-    story.req_prod(0, 33);
+    story.publish_up_to(0, 33);
     faulty(story.started(0, 1, 1), "an overrun was due");
 }
 
@@ -192,12 +209,12 @@ fn overrun_counts_what_is_in_flight() {
 fn starts_name_lowest_tag_and_serial() {
     for (tag, serial) in [(0, 1), (2, 1), (1, 0), (1, 2), (32, 1), (u64::MAX, 1)] {
         let mut story = Story::new(1);
-        story.req_prod(0, 9);
+        story.publish_up_to(0, 9);
         story.started(0, 0, 0).unwrap();
         faulty(story.started(0, tag, serial), "due were 1 and 1");
     }
     let mut story = Story::new(1);
-    story.req_prod(0, 9);
+    story.publish_up_to(0, 9);
     story.started(0, 0, 0).unwrap();
     story.started(0, 1, 1).unwrap();
     story.complete(0, 0, 0, 0).unwrap();
@@ -207,34 +224,34 @@ fn starts_name_lowest_tag_and_serial() {
 #[test]
 fn an_answer_with_another_pair() {
     let mut story = Story::new(1);
-    story.req_prod(0, 9);
-    story.left[64 + 8] = 1;
+    story.publish_up_to(0, 9);
+    story.left[slot_at(0) + 8] = 1;
     faulty(story.answered(0), "pairs taken");
     let mut story = Story::new(1);
-    story.req_prod(0, 9);
+    story.publish_up_to(0, 9);
     story.started(0, 0, 0).unwrap();
-    story.left[64] = 1;
+    story.left[slot_at(0)] = 1;
     faulty(story.complete(0, 0, 0, 0), "pairs taken");
 }
 
 #[test]
 fn a_pair_is_read_when_taken() {
     let mut story = Story::new(1);
-    story.set(0, 64 + 8, 77);
-    story.req_prod(0, 1);
+    story.set(0, slot_at(0) + 8, 77);
+    story.publish_up_to(0, 1);
     story.started(0, 0, 0).unwrap();
     // What the guest writes later changes nothing: 77 is due.
-    story.set(0, 64 + 8, 78);
-    story.set(0, 64, 77);
-    story.rings[64 + 8] = 0;
-    story.left[64 + 8] = 0;
+    story.set(0, slot_at(0) + 8, 78);
+    story.set(0, slot_at(0), 77);
+    story.rings[slot_at(0) + 8] = 0;
+    story.left[slot_at(0) + 8] = 0;
     story.complete(0, 0, 0, 0).unwrap();
 }
 
 #[test]
 fn answered_twice() {
     let mut story = Story::new(1);
-    story.req_prod(0, 9);
+    story.publish_up_to(0, 9);
     story.started(0, 0, 0).unwrap();
     story.complete(0, 0, 0, 0).unwrap();
     faulty(story.complete(0, 0, 0, 0), "due was 6");
@@ -250,7 +267,7 @@ fn refusals_against_the_rule() {
     faulty(story.close(1, 0), "due was 4");
     faulty(story.complete(0, 0, 0, 4), "due was 6");
     faulty(story.complete(1, 0, 0, 6), "due was 4");
-    story.req_prod(0, 1);
+    story.publish_up_to(0, 1);
     story.started(0, 0, 0).unwrap();
     faulty(story.close(0, 0), "due was 5");
     faulty(story.complete(0, 0, 0, 6), "due was 0");

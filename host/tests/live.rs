@@ -3,46 +3,47 @@
 //! it. The guests of these lists keep their hands off requests that wait, for a live page's are
 //! copied when first seen.
 
-use kernelharp_host::generate::{Buffer, Call, Generator, Outcome, Step, World};
-use kernelharp_host::layout::{PAGE_BYTES, PORT_GRANTS, RINGS_BYTES};
-use kernelharp_host::live::{LiveBackend, SharedPage};
-use kernelharp_host::{reference, Completion, Done, Port, Refusal, Serial, Tag, Turn};
-use std::ptr::NonNull;
+use frontend::GuestPage;
+use generate::{Buffer, Call, Generator, Outcome, Step, World};
+use kernelharp::layout::{page, PAGE_BYTES, PORTS, PORT_GRANTS};
+use kernelharp::live::LiveBackend;
+use kernelharp::{Completion, Done, Name, Port, Refusal, Serial, Tag, Turn};
 
-type Pages = [u64; RINGS_BYTES / 8];
-
-/// Eight guests' pages, reached by this pointer alone, and a backend over them.
+/// Eight guests' pages, and a backend over them.
 struct Live {
-    pages: NonNull<u8>,
+    pages: [&'static GuestPage; PORTS],
     backend: LiveBackend,
 }
 
 impl Live {
+    /// Pages of zeros.
     fn new() -> Live {
-        let pages: Box<Pages> = Box::new([0; RINGS_BYTES / 8]);
+        let pages = std::array::from_fn(|_| GuestPage::new());
+        for page in &pages {
+            page.write(0, &[0; PAGE_BYTES]);
+        }
         Live {
-            pages: NonNull::from(Box::leak(pages)).cast(),
+            pages,
             backend: LiveBackend::new().expect("an archive of this package"),
         }
     }
 
-    fn share(&self, port: Port) -> SharedPage {
-        // SAFETY: the page lies within `pages`, which live as long as the backend.
-        unsafe { SharedPage::new(self.pages.add(PAGE_BYTES * port.index())) }
-    }
-
     fn write(&mut self, step: &Step) {
         for write in &step.writes {
-            for (at, &byte) in (write.at..).zip(&write.bytes) {
-                match write.buffer {
-                    // SAFETY: a byte of the pages.
-                    Buffer::Rings => unsafe { self.pages.add(at).write_volatile(byte) },
-                    Buffer::Grants => {
-                        let port = Port::try_from((at / PORT_GRANTS) as u32).unwrap();
-                        self.backend.grants_mut(port)[at % PORT_GRANTS] = byte;
-                    }
+            match write.buffer {
+                Buffer::Rings => {
+                    let page = self.pages[write.at / PAGE_BYTES];
+                    page.write(write.at % PAGE_BYTES, &write.bytes);
                 }
+                Buffer::Grants => self.grant(write.at, &write.bytes),
             }
+        }
+    }
+
+    fn grant(&mut self, at: usize, bytes: &[u8]) {
+        for (at, &byte) in (at..).zip(bytes) {
+            let port = Port::try_from((at / PORT_GRANTS) as u32).unwrap();
+            self.backend.grants_mut(port)[at % PORT_GRANTS] = byte;
         }
     }
 
@@ -63,7 +64,8 @@ impl Live {
                 named: Completion { port, .. },
                 ..
             } => {
-                if let (Ok(port), true) = (Port::try_from(port), due.code != 1) {
+                let lengths_are_due = refused != Err(Refusal::WrongLength);
+                if let (Ok(port), true) = (Port::try_from(port), lengths_are_due) {
                     self.call_of_port(port, call, refused, due);
                 }
             }
@@ -77,7 +79,7 @@ impl Live {
         refused: Result<(), Refusal>,
         due: &Outcome,
     ) {
-        let page = self.share(port);
+        let page = self.pages[port.index()].shared();
         let backend = &mut self.backend;
         match *call {
             Call::Open { ref sheet, .. } => {
@@ -85,8 +87,12 @@ impl Live {
             }
             Call::Close { .. } => assert_eq!(backend.close(port).map(|_| ()), refused),
             Call::Complete { named, .. } => {
-                let (tag, serial) = (Tag(named.tag), Serial(named.serial));
-                let done = backend.complete(port, tag, serial, named.result);
+                let name = Name {
+                    port,
+                    tag: Tag(named.tag),
+                    serial: Serial(named.serial),
+                };
+                let done = backend.complete(name, named.result);
                 let due = refused.map(|()| Done::from_words(&due.done).unwrap());
                 assert_eq!(done, due);
             }
@@ -95,20 +101,11 @@ impl Live {
     }
 
     fn holds(&self, rings: &[u8]) -> bool {
-        let pages = self.pages.cast::<u64>();
-        let mut words = rings.chunks_exact(8).enumerate();
-        words.all(|(number, bytes)| {
-            // SAFETY: a word of the pages.
-            let word = unsafe { pages.add(number).read_volatile() };
-            bytes == word.to_ne_bytes()
+        let mut bytes = [0; PAGE_BYTES];
+        self.pages.iter().enumerate().all(|(port, live)| {
+            live.read(0, &mut bytes);
+            bytes == page(rings, port)
         })
-    }
-}
-
-impl Drop for Live {
-    fn drop(&mut self) {
-        // SAFETY: made by `Box::leak` in `new`.
-        drop(unsafe { Box::from_raw(self.pages.cast::<Pages>().as_ptr()) });
     }
 }
 
@@ -116,7 +113,7 @@ impl Drop for Live {
 fn live_pages_end_up_as_lent_ones() {
     for seed in 1..=10 {
         let mut generator = Generator::polite(seed);
-        let (mut backend, mut world) = (reference::Backend::new(), World::new());
+        let (mut backend, mut world) = (second::Backend::new(), World::new());
         let mut live = Live::new();
         for number in 0..10_000 {
             let step = generator.next_step(&world);

@@ -1,16 +1,15 @@
 //! Backend memory that calls alone would not lead to: indices at the wrap, and any words at all.
 
-mod common;
-
-use common::full_sheet;
-use kernelharp_host::generate::{Random, UNTOUCHED};
-use kernelharp_host::layout::{
-    read_u32, slot_at, write_u32, DONE_WORDS, GRANTS_BYTES, PAGE_BYTES, REQ_EVENT, REQ_PROD,
-    RESPONSE_BYTES, RINGS_BYTES, RSP_PROD, TURN_WORDS,
+use generate::{Random, UNTOUCHED};
+use kernelharp::layout::{
+    read_u32, slot_at, write_u32, GRANTS_BYTES, PAGE_BYTES, REQ_EVENT, REQ_PROD, RESPONSE_BYTES,
+    RINGS_BYTES, RSP_PROD, SLOT_BYTES,
 };
-use kernelharp_host::{
-    Completion, Core, Done, Memory, Reason, Refusal, Serial, Status, Tag, Turn, MEMORY_WORDS,
+use kernelharp::words::{DONE_WORDS, TURN_WORDS};
+use kernelharp::{
+    Completion, Done, Memory, Reason, Refusal, Serial, Status, Tag, Turn, MEMORY_WORDS,
 };
+use tests::full_sheet;
 
 const UNKNOWN: u8 = 9;
 const FLUSH: u8 = 3;
@@ -96,7 +95,8 @@ fn started_at_the_wrap() {
     let Turn::Started(plan) = bench.turn() else {
         panic!("a flush starts")
     };
-    assert_eq!((plan.tag, plan.serial), (Tag(0), Serial(u32::MAX)));
+    assert_eq!(plan.name.tag, Tag(0));
+    assert_eq!(plan.name.serial, Serial(u32::MAX));
     // One in flight: req_prod may run 31 ahead of C = 0, no further.
     write_u32(&mut bench.rings, REQ_PROD, 32);
     assert!(matches!(bench.turn(), Turn::Overrun(_)));
@@ -137,7 +137,7 @@ fn allowed(port: usize, at: usize, responded: bool) -> bool {
     if !responded {
         return (REQ_EVENT..REQ_EVENT + 4).contains(&in_page);
     }
-    let in_slot = in_page >= slot_at(0) && (in_page - slot_at(0)) % 112 < RESPONSE_BYTES;
+    let in_slot = in_page >= slot_at(0) && (in_page - slot_at(0)) % SLOT_BYTES < RESPONSE_BYTES;
     let in_rsp_prod = (RSP_PROD..RSP_PROD + 4).contains(&in_page);
     at / PAGE_BYTES == port && (in_slot || in_rsp_prod)
 }
@@ -174,6 +174,7 @@ fn any_call(random: &mut Random, bench: &mut Bench) {
             Turn::Idle => check_rings(&before, &bench.rings, 0, false),
             Turn::Answered { port, .. } => check_rings(&before, &bench.rings, port.index(), true),
             Turn::Started(_) | Turn::Overrun(_) => assert!(before == bench.rings),
+            other => panic!("{other}"),
         },
     }
 }

@@ -1,18 +1,15 @@
-//! The replayed list of calls, run through the reference and the archive: their lines are those that
-//! the proved program wrote, answers and changed page bytes alike.
+//! The replayed list of calls, run through the second program and the archive: their lines are those
+//! that the proved program wrote, answers and changed page bytes alike.
 
-mod common;
-
-use common::Both;
-use kernelharp_host::reference::{Done, Plan, Turned};
+use kernelharp::layout::{GRANTS_BYTES, PAGE_BYTES, PORT_GRANTS, RINGS_BYTES};
+use kernelharp::Completion;
+use second::{Done, Plan, Refusal, Turned};
 use std::fmt::Write;
 use std::str::FromStr;
+use tests::Both;
 
 const CALLS: &str = include_str!("../../crates/replay/stdin");
 const LINES: &str = include_str!("../../crates/replay/stdout");
-
-const RINGS: usize = 8 * 4096;
-const GRANTS: usize = 8 * 1024;
 
 /// The words of one line after its letter.
 struct Words<'a>(std::str::Split<'a, char>);
@@ -22,6 +19,15 @@ impl Words<'_> {
         let word = self.0.next().expect("one more number");
         word.parse()
             .unwrap_or_else(|_| panic!("{word} is no number"))
+    }
+
+    fn completion(&mut self) -> Completion {
+        Completion {
+            port: self.next(),
+            tag: self.next(),
+            serial: self.next(),
+            result: self.next(),
+        }
     }
 
     fn rest(self) -> Vec<u8> {
@@ -37,16 +43,16 @@ fn notify(wanted: bool) -> &'static str {
     }
 }
 
-fn plain(call: &str, answer: Result<(), u32>) -> String {
+fn plain(call: &str, answer: Result<(), Refusal>) -> String {
     match answer {
         Ok(()) => format!("{call} done"),
-        Err(number) => format!("{call} refused {number}"),
+        Err(refusal) => format!("{call} refused {}", refusal as u32),
     }
 }
 
-fn turned(answer: Result<Turned, u32>) -> String {
+fn turned(answer: Result<Turned, Refusal>) -> String {
     match answer {
-        Err(number) => format!("turn refused {number}"),
+        Err(refusal) => format!("turn refused {}", refusal as u32),
         Ok(Turned::Idle) => "turn idle".to_string(),
         Ok(Turned::Overrun { port }) => format!("turn overrun port {port}"),
         Ok(Turned::Answered {
@@ -87,9 +93,9 @@ fn started(plan: &Plan) -> String {
     line
 }
 
-fn completed(answer: Result<Done, u32>) -> String {
+fn completed(answer: Result<Done, Refusal>) -> String {
     match answer {
-        Err(number) => format!("complete refused {number}"),
+        Err(refusal) => format!("complete refused {}", refusal as u32),
         Ok(done) => format!(
             "complete done port {} status {}{}",
             done.port,
@@ -119,13 +125,13 @@ impl Host {
         let mut words = Words(parts);
         match letter {
             "b" => {
-                let at = words.next::<usize>() * 4096 + words.next::<usize>();
+                let at = words.next::<usize>() * PAGE_BYTES + words.next::<usize>();
                 let bytes = words.rest();
                 rings[at..at + bytes.len()].copy_from_slice(&bytes);
                 None
             }
             "g" => {
-                let at = words.next::<usize>() * 1024 + words.next::<usize>();
+                let at = words.next::<usize>() * PORT_GRANTS + words.next::<usize>();
                 grants[at] = words.next();
                 None
             }
@@ -137,10 +143,13 @@ impl Host {
                 Some(turned(backend.turn(rings, &grants[..words.next()])))
             }
             "f" | "F" => {
-                let length = if letter == "F" { words.next() } else { RINGS };
-                let (port, tag, serial) = (words.next(), words.next(), words.next());
-                let (rings, result) = (&mut rings[..length], words.next());
-                let done = backend.complete(rings, port, tag, serial, result);
+                let length = if letter == "F" {
+                    words.next()
+                } else {
+                    RINGS_BYTES
+                };
+                let named = words.completion();
+                let done = backend.complete(&mut rings[..length], named);
                 Some(completed(done))
             }
             _ => Some(call.to_string()),
@@ -152,8 +161,8 @@ impl Host {
 fn the_replayed_calls_answer_alike() {
     let mut host = Host {
         backend: Both::new(),
-        rings: vec![0; RINGS],
-        grants: vec![0; GRANTS],
+        rings: vec![0; RINGS_BYTES],
+        grants: vec![0; GRANTS_BYTES],
     };
     let mut due = LINES.lines();
     for call in CALLS.lines() {

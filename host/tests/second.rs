@@ -1,8 +1,11 @@
-//! Long random runs: the reference alone with the checker of demand 3 and the census, and the
+//! Long random runs: the second program alone with the checker of demand 3 and the census, and the
 //! comparison of two programs.
 
-use kernelharp_host::generate::{run, Completion, Core, Generator, Step, World};
-use kernelharp_host::reference::{Backend, DONE_WORDS, TURN_WORDS};
+use generate::{run, Core, Generator, Step, World};
+use kernelharp::layout::{page, page_mut, read_u32, slot_at, write_u32, RSP_PROD};
+use kernelharp::words::{done, kind, turn, DoneWords, TurnWords};
+use kernelharp::Completion;
+use second::{Backend, Refusal};
 
 const SEED: u64 = 0x6B65_726E_656C;
 
@@ -30,7 +33,7 @@ fn other_seeds_keep_demand_3() {
 }
 
 #[test]
-fn two_references_agree() {
+fn two_second_programs_agree() {
     let (mut one, mut other) = (Backend::new(), Backend::new());
     run(&mut [&mut one, &mut other], SEED, 5_000).unwrap_or_else(|at| panic!("{at}"));
     assert_eq!(one, other);
@@ -72,7 +75,7 @@ fn refused_calls_leave_the_backend() {
     assert!(refused > 500, "only {refused} refused calls");
 }
 
-/// The shapes of wrong programs that a wrapper around the reference can take.
+/// The shapes of wrong programs that a wrapper around the second program can take.
 #[derive(Clone, Copy, Debug)]
 enum Flaw {
     /// Guest bytes stay in the response's padding.
@@ -113,57 +116,60 @@ impl Core for Flawed {
     fn open(&mut self, port: u32, sheet: &[u8]) -> u32 {
         let code = Core::open(&mut self.backend, port, sheet);
         match self.flaw {
-            Flaw::Sheet if code == 11 => 13,
+            Flaw::Sheet if code == Refusal::SheetShape as u32 => Refusal::SheetText as u32,
             _ => code,
         }
     }
 
     fn close(&mut self, port: u32) -> u32 {
-        match (Core::close(&mut self.backend, port), self.flaw) {
-            (4, Flaw::Close) => 0,
-            (4, Flaw::Memory) => {
-                self.words[0] += 1;
-                4
+        let code = Core::close(&mut self.backend, port);
+        if code == Refusal::IsClosed as u32 {
+            match self.flaw {
+                Flaw::Close => return 0,
+                Flaw::Memory => self.words[0] += 1,
+                _ => {}
             }
-            (code, _) => code,
         }
+        code
     }
 
     fn memory(&self) -> &[u64] {
         &self.words
     }
 
-    fn turn(&mut self, rings: &mut [u8], grants: &[u8], answer: &mut [u64; TURN_WORDS]) -> u32 {
+    fn turn(&mut self, rings: &mut [u8], grants: &[u8], answer: &mut TurnWords) -> u32 {
         let lent = rings.to_vec();
         let code = Core::turn(&mut self.backend, rings, grants, answer);
-        match self.flaw {
-            Flaw::Padding if code == 0 && answer[0] == 2 => {
-                let page = 4096 * answer[1] as usize;
-                let index = u32::from_le_bytes(rings[page + 8..page + 12].try_into().unwrap());
-                let at = page + 64 + 112 * (index.wrapping_sub(1) as usize % 32) + 12;
-                rings[at..at + 4].copy_from_slice(&lent[at..at + 4]);
+        if code != 0 {
+            if matches!(self.flaw, Flaw::Answer) {
+                answer[turn::KIND] = kind::IDLE;
             }
-            Flaw::RspProd if code == 0 && answer[0] == 2 => {
-                let at = 4096 * answer[1] as usize + 8;
-                let old = u32::from_le_bytes(lent[at..at + 4].try_into().unwrap());
-                rings[at..at + 4].copy_from_slice(&old.wrapping_add(1).to_le_bytes());
+            return code;
+        }
+        let port = answer[turn::PORT] as usize;
+        match (answer[turn::KIND], self.flaw) {
+            (kind::ANSWERED, Flaw::Padding) => {
+                let index = read_u32(page(rings, port), RSP_PROD).wrapping_sub(1);
+                let at = slot_at(index) + 12;
+                let stays = read_u32(page(&lent, port), at);
+                write_u32(page_mut(rings, port), at, stays);
             }
-            Flaw::Count if code == 0 && answer[0] == 1 && answer[8] == 11 => answer[6] += 1,
-            Flaw::Answer if code != 0 => answer[0] = 0,
+            (kind::ANSWERED, Flaw::RspProd) => {
+                let next = read_u32(page(&lent, port), RSP_PROD).wrapping_add(1);
+                write_u32(page_mut(rings, port), RSP_PROD, next);
+            }
+            (kind::STARTED, Flaw::Count) if answer[turn::EXTENT_COUNT] == 11 => {
+                answer[turn::COUNT] += 1;
+            }
             _ => {}
         }
         code
     }
 
-    fn complete(
-        &mut self,
-        rings: &mut [u8],
-        named: Completion,
-        answer: &mut [u64; DONE_WORDS],
-    ) -> u32 {
+    fn complete(&mut self, rings: &mut [u8], named: Completion, answer: &mut DoneWords) -> u32 {
         let code = Core::complete(&mut self.backend, rings, named, answer);
         if matches!(self.flaw, Flaw::Notify) && code == 0 {
-            answer[2] = 1;
+            answer[done::NOTIFY] = 1;
         }
         code
     }
@@ -183,7 +189,7 @@ fn flawed_programs_are_found() {
     ] {
         let mut flawed = Flawed::new(flaw);
         let failure = run(&mut [&mut Backend::new(), &mut flawed], SEED, 20_000)
-            .expect_err("a flawed program agrees with the reference");
+            .expect_err("a flawed program agrees with the second");
         println!("{flaw:?}: {failure}");
     }
 }

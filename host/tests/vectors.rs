@@ -1,13 +1,11 @@
-//! The papers' worked cases, read from their file and run through the reference and the archive.
+//! The worked cases of section 9, read from their file and run through the second program and the
+//! archive.
 
-mod common;
+use kernelharp::layout::{slot_at, HEADER_BYTES, RESPONSE_BYTES, SLOT_BYTES};
+use second::{backlog, read_sheet, response_bytes, Backlog, Status, Turned};
+use tests::{full_sheet, Ask, Bench};
 
-use common::{full_sheet, Ask, Bench};
-use kernelharp_host::reference::{
-    backlog, read_sheet, response_bytes, slot_at, Backlog, Status, Turned, RESPONSE_BYTES,
-};
-
-const VECTORS: &str = include_str!("../../tests/vectors.txt");
+const VECTORS: &str = include_str!("../../tests/vectors/worked.txt");
 
 /// The cases of one kind: the words given, and what is due.
 fn cases(kind: &str) -> Vec<(Vec<&'static str>, &'static str)> {
@@ -100,11 +98,12 @@ fn indices() {
         let in_flight = taken.wrapping_sub(answered);
         let came = match backlog(req_prod, taken, in_flight) {
             Backlog::Nothing => "nothing".to_string(),
-            Backlog::Waits => format!("waits {}", (slot_at(taken) - 64) / 112),
+            Backlog::Waits => format!("waits {}", (slot_at(taken) - HEADER_BYTES) / SLOT_BYTES),
             Backlog::Overrun => "overrun".to_string(),
         };
         assert_eq!(came, due, "{given:?}");
-        // The wrap is too far for calls; reference.rs has a test of its own for it.
+        // The wrap is too far for calls; the second program has tests of its own for it, and memory.rs
+        // those of the archive.
         if taken < 1000 {
             assert_eq!(index_by_calls(taken, answered, req_prod), due, "{given:?}");
         }
@@ -126,7 +125,7 @@ fn index_by_calls(taken: u32, answered: u32, req_prod: u32) -> String {
     // Each slot's read starts at the sector of the slot's own number.
     for slot in 0..32u32 {
         let ask = Ask::of(0, 1, u64::from(slot), 0, 0);
-        bench.rings[slot_at(slot)..][..112].copy_from_slice(&ask.bytes());
+        bench.rings[slot_at(slot)..][..SLOT_BYTES].copy_from_slice(&ask.bytes());
     }
     bench.set_req_prod(0, req_prod);
     match bench.turn() {
@@ -168,9 +167,9 @@ fn responses() {
         let mut ask = Ask::of(0, 0, 0, 0, 0);
         ask.id = id;
         assert_eq!(bench.number(&ask), 25);
-        let slot = &bench.page(0)[slot_at(0)..][..112];
+        let slot = &bench.page(0)[slot_at(0)..][..SLOT_BYTES];
         assert_eq!(slot[..RESPONSE_BYTES], due);
-        // "The slot's other 96 bytes stay."
+        // The rest of the slot stays (rule 2.11).
         assert_eq!(slot[RESPONSE_BYTES..], ask.bytes()[RESPONSE_BYTES..]);
     }
 }

@@ -4,11 +4,11 @@
 //! First in lockstep, in every order that their steps can have: without the rules some orders leave
 //! one side asleep for ever, with them none does. Then running freely, with the rules.
 
-use kernelharp_host::frontend::{segmented, EventChannel, Frontend, GuestPage, Segment};
-use kernelharp_host::generate::Random;
-use kernelharp_host::layout::SLOT_BYTES;
-use kernelharp_host::live::{LiveBackend, SharedPage};
-use kernelharp_host::{Backend, Plan, Port, Refusal, Sheet, Turn};
+use frontend::{segmented, EventChannel, Frontend, GuestPage, Segment};
+use generate::Random;
+use kernelharp::layout::SLOT_BYTES;
+use kernelharp::live::{LiveBackend, SharedPage};
+use kernelharp::{Backend, Plan, Port, Refusal, Sheet, Turn};
 use std::sync::atomic::{fence, AtomicBool, Ordering};
 use std::sync::{Condvar, Mutex};
 use std::thread;
@@ -64,7 +64,7 @@ impl Pair {
         let plan = pair.start(1);
         pair.page
             .copy_rsp_event_in(pair.backend.page_mut(pair.port));
-        let done = pair.backend.complete(port, plan.tag, plan.serial, 1);
+        let done = pair.backend.complete(plan.name, 1);
         let said = done.unwrap().notify;
         assert!(pair
             .page
@@ -212,8 +212,7 @@ fn response_is_lost(order: &[Side], word: Word) -> bool {
 }
 
 fn complete(backend: &mut Backend, plan: &Plan) -> bool {
-    let result = plan.expected_result();
-    let done = backend.complete(plan.port, plan.tag, plan.serial, result);
+    let done = backend.complete(plan.name, plan.expected_result());
     done.unwrap().notify
 }
 
@@ -275,12 +274,11 @@ fn serve(mut backend: LiveBackend, bells: &Bells) {
                 false
             }
             Turn::Started(plan) => {
-                let result = plan.expected_result();
-                let done = backend.complete(plan.port, plan.tag, plan.serial, result);
+                let done = backend.complete(plan.name, plan.expected_result());
                 done.unwrap().notify
             }
             Turn::Answered { notify, .. } => notify,
-            Turn::Overrun(port) => panic!("overrun on {port}"),
+            other => panic!("{other}"),
         };
         if notify {
             bells.to_guest.notify();

@@ -201,7 +201,7 @@ static void check_plan(const kind *k, const kh_plan *plan) {
 
 static void take_turn(world *w, host *h) {
     memcpy(w->shadow, h->at[RINGS], KH_RINGS_BYTES);
-    CHECK_EQ(TURN(h), KH_DONE);
+    CHECK_EQ(TURN(h), KH_OK);
     kh_turned turned = kh_read_turn(words(h, TURNED));
     if (turned.kind == KH_IDLE) {
         sleep_by_macros(w);
@@ -237,7 +237,7 @@ static void end_request(world *w, host *h, uint32_t port, uint32_t tag, uint32_t
     int32_t all = k->operation <= BLKIF_OP_WRITE_BARRIER ? (int32_t)count_of(k) : 0;
     const int32_t result[] = {all, all, all - 1, -5, -95};
     memcpy(w->shadow, h->at[RINGS], KH_RINGS_BYTES);
-    CHECK_EQ(COMPLETE(h, port, tag, b->tags[tag].serial, result[way]), KH_DONE);
+    CHECK_EQ(COMPLETE(h, port, tag, b->tags[tag].serial, result[way]), KH_OK);
     respond_by_macros(w, port, w->numbers[port][tag], status[way], words(h, COMPLETED)[KH_DONE_NOTIFY] != 0);
     CHECK(memcmp(w->shadow, h->at[RINGS], KH_RINGS_BYTES) == 0);
 }
@@ -252,7 +252,7 @@ static void attach(world *w, host *h) {
         XEN_FRONT_RING_INIT(&g->front, (blkif_sring_t *)(void *)ring(h, port), KH_RING_BYTES);
         BACK_RING_INIT(&w->backs[port], (blkif_sring_t *)(void *)(w->shadow + KH_RING_BYTES * port), KH_RING_BYTES);
         grant(h, port, FRAME_TO_READ, KH_GRANT_READ);
-        CHECK_EQ(OPEN_NODES(h, port, disk_nodes[disk_of[port]]), KH_DONE);
+        CHECK_EQ(OPEN_NODES(h, port, disk_nodes[disk_of[port]]), KH_OK);
     }
 }
 
@@ -298,7 +298,7 @@ static void frontend_on_xen_macros(host *h) {
     for (uint32_t port = 0; port < KH_PORTS; port++) {
         CHECK_EQ(w.guests[port].collected, REQUESTS);
         CHECK_EQ(index_at(h, port, KH_RSP_PROD), REQUESTS);
-        CHECK_EQ(CLOSE(h, port), KH_DONE);
+        CHECK_EQ(CLOSE(h, port), KH_OK);
     }
     CHECK(w.notified[0] > 1000 && w.notified[1] > 1000);
     if (placement != BEFORE_GUARD)

@@ -6,7 +6,26 @@ static uint8_t rings[KH_RINGS_BYTES];
 static uint8_t grants[KH_GRANTS_BYTES];
 
 static void check_archive_matches_header(void) {
+    CHECK_EQ(kh_version(), KH_VERSION);
     CHECK_EQ(kh_memory_words(), KH_MEMORY_WORDS);
+}
+
+/* The other tests go by the rules' numbers: this is what each is called. */
+static void check_named(const int *names, size_t count, int first) {
+    size_t i;
+    for (i = 0; i < count; i++)
+        CHECK_EQ(names[i], first + (int)i);
+}
+
+static void check_names(void) {
+    static const int calls[] = {KH_OK,        KH_WRONG_LENGTH, KH_NO_PORT, KH_NOT_CLOSED,
+                                KH_IS_CLOSED, KH_IN_FLIGHT,    KH_NOT_BUSY};
+    static const int sheets[] = {KH_SHEET_SHAPE, KH_SHEET_NODES, KH_SHEET_TEXT, KH_SHEET_NUMBER, KH_SHEET_MISSING};
+    static const int reasons[] = {KH_UNKNOWN_OPERATION, KH_FEATURE_OFF, KH_SECURE_OFF, KH_READ_ONLY, KH_WRONG_AMOUNT,
+                                  KH_WRONG_SEGMENT,     KH_NOT_GRANTED, KH_PAST_END,   KH_UNALIGNED};
+    check_named(calls, COUNT_OF(calls), 0);
+    check_named(sheets, COUNT_OF(sheets), 11);
+    check_named(reasons, COUNT_OF(reasons), 21);
 }
 
 /* A guest's read of sectors 8 to 15 into frame 9, on port 1. */
@@ -32,7 +51,7 @@ static void check_started_read(const kh_turned *turned) {
     CHECK(extent->frame == 9 && extent->first == 0 && extent->length == 8 && extent->sector == 8);
 }
 
-/* The five functions, once each, as a host would. */
+/* The four calls, once each, as a host would. */
 static void check_calls(void) {
     static const uint8_t sheet[21] = {3, 1, 0, 1, 0, 6, 0, 3, 0, 7, 0, 4, 0, 'w', '5', '1', '2', '2', '0', '0', '8'};
     uint64_t answer[KH_TURN_WORDS];
@@ -40,18 +59,18 @@ static void check_calls(void) {
     kh_turned turned;
     kh_completed completed;
     publish_read();
-    CHECK_EQ(kh_open(memory.words, 1, NULL, 0), KH_SHEET_SHAPE);
-    CHECK_EQ(kh_open(memory.words, 1, sheet, sizeof sheet), KH_DONE);
-    CHECK_EQ(kh_turn(memory.words, NULL, 0, NULL, 0, answer), KH_WRONG_LENGTH);
-    CHECK_EQ(kh_turn(memory.words, rings, sizeof rings, grants, sizeof grants, answer), KH_DONE);
+    CHECK_EQ(kh_open(&memory, 1, NULL, 0), KH_SHEET_SHAPE);
+    CHECK_EQ(kh_open(&memory, 1, sheet, sizeof sheet), KH_OK);
+    CHECK_EQ(kh_turn(&memory, NULL, 0, NULL, 0, answer), KH_WRONG_LENGTH);
+    CHECK_EQ(kh_turn(&memory, rings, sizeof rings, grants, sizeof grants, answer), KH_OK);
     turned = kh_read_turn(answer);
     check_started_read(&turned);
-    CHECK_EQ(kh_close(memory.words, 1), KH_IN_FLIGHT);
-    CHECK_EQ(kh_complete(memory.words, rings, sizeof rings, turned.port, turned.plan.tag, turned.plan.serial, 8, done),
-             KH_DONE);
+    CHECK_EQ(kh_close(&memory, 1), KH_IN_FLIGHT);
+    CHECK_EQ(kh_complete(&memory, rings, sizeof rings, turned.port, turned.plan.tag, turned.plan.serial, 8, done),
+             KH_OK);
     completed = kh_read_completion(done);
     CHECK(completed.port == 1 && completed.status == KH_OKAY && completed.notify);
-    CHECK_EQ(kh_close(memory.words, 1), KH_DONE);
+    CHECK_EQ(kh_close(&memory, 1), KH_OK);
 }
 
 /* Each word of an answer is read into the field that has its name. */
@@ -81,6 +100,7 @@ static void check_completion_reader(void) {
 int main(void) {
     running.name = "header";
     check_archive_matches_header();
+    check_names();
     check_calls();
     check_turn_reader();
     check_completion_reader();

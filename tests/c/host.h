@@ -37,6 +37,10 @@ static inline uint64_t *words(const host *h, enum area area) {
     return (uint64_t *)(void *)h->at[area];
 }
 
+static inline kh_memory *memory_of(const host *h) {
+    return (kh_memory *)(void *)h->at[MEMORY];
+}
+
 static inline uint8_t *ring(const host *h, uint32_t port) {
     return h->at[RINGS] + KH_RING_BYTES * port;
 }
@@ -103,7 +107,7 @@ static inline void check_same(const host *h, enum area area) {
 /* A refused call changed nothing, and one that was done only areas of `changes`, a bit to each. */
 static inline void check_kept(const host *h, uint32_t number, unsigned changes) {
     for (int area = 0; area < AREAS; area++)
-        if (number != KH_DONE || (changes >> area & 1) == 0)
+        if (number != KH_OK || (changes >> area & 1) == 0)
             check_same(h, (enum area)area);
 }
 
@@ -139,7 +143,7 @@ static inline void check_started(book *b, started request, const uint64_t *answe
 
 static inline void check_answered(host *h, uint32_t port, started request, const uint64_t *answer) {
     uint64_t reason = answer[KH_TURN_REASON];
-    CHECK(reason >= KH_UNKNOWN_OPERATION && reason <= KH_MISALIGNED);
+    CHECK(reason >= KH_UNKNOWN_OPERATION && reason <= KH_UNALIGNED);
     CHECK_EQ(answer[KH_TURN_STATUS], reason <= KH_SECURE_OFF ? 2 : 1);
     h->books[port].taken++;
     expect_response(h, port, &request, answer[KH_TURN_STATUS], answer[KH_TURN_NOTIFY]);
@@ -158,8 +162,9 @@ static inline bool uses_word(const uint64_t *answer, unsigned word) {
         return true;
     if (kind == KH_ANSWERED)
         return word >= KH_TURN_REASON && word <= KH_TURN_NOTIFY;
-    return kind == KH_STARTED && ((word >= KH_TURN_TAG && word <= KH_TURN_EXTENT_COUNT) ||
-                                  (word >= KH_TURN_EXTENTS && word / 4 - 4 < answer[KH_TURN_EXTENT_COUNT]));
+    return kind == KH_STARTED &&
+           ((word >= KH_TURN_TAG && word <= KH_TURN_EXTENT_COUNT) ||
+            (word >= KH_TURN_EXTENTS && (word - KH_TURN_EXTENTS) / KH_EXTENT_WORDS < answer[KH_TURN_EXTENT_COUNT]));
 }
 
 /* The answer of a turn that was done, the rings after it, and what both say of the port. */
@@ -193,7 +198,8 @@ static inline void check_completion(host *h, uint32_t port, uint32_t tag, uint32
     CHECK((b->busy >> tag % KH_TAGS & 1) != 0 && request->serial == serial);
     CHECK_EQ(answer[KH_DONE_PORT], port);
     CHECK_EQ(answer[KH_DONE_STATUS], result == request->expected ? 0 : result == KH_RESULT_NOT_SUPPORTED ? 2 : 1);
-    CHECK_EQ(answer[3], 0);
+    for (unsigned word = KH_DONE_NOTIFY + 1; word < KH_DONE_WORDS; word++)
+        CHECK_EQ(answer[word], 0);
     b->busy &= ~(UINT32_C(1) << tag % KH_TAGS);
     expect_response(h, port % KH_PORTS, request, answer[KH_DONE_STATUS], answer[KH_DONE_NOTIFY]);
     check_same(h, RINGS);
@@ -207,13 +213,13 @@ static inline uint32_t do_open(host *h, uint32_t port, const uint8_t *sheet, siz
     if (bytes > 0)
         memcpy(lent, sheet, bytes);
     remember(h);
-    number = kh_open(words(h, MEMORY), port, lent, bytes);
+    number = kh_open(memory_of(h), port, lent, bytes);
     check_kept(h, number, 1 << MEMORY);
     if (bytes > 0) {
         CHECK(memcmp(lent, sheet, bytes) == 0);
         give_back(lent, bytes);
     }
-    if (number == KH_DONE) {
+    if (number == KH_OK) {
         memset(&h->books[port], 0, sizeof h->books[port]);
         h->books[port].open = true;
     }
@@ -223,9 +229,9 @@ static inline uint32_t do_open(host *h, uint32_t port, const uint8_t *sheet, siz
 static inline uint32_t do_close(host *h, uint32_t port) {
     uint32_t number;
     remember(h);
-    number = kh_close(words(h, MEMORY), port);
+    number = kh_close(memory_of(h), port);
     check_kept(h, number, 1 << MEMORY);
-    if (number == KH_DONE)
+    if (number == KH_OK)
         memset(&h->books[port], 0, sizeof h->books[port]);
     return number;
 }
@@ -234,10 +240,9 @@ static inline uint32_t do_turn(host *h) {
     uint32_t number;
     memset(h->at[TURNED], 0xA5, h->bytes[TURNED]);
     remember(h);
-    number =
-        kh_turn(words(h, MEMORY), h->at[RINGS], h->bytes[RINGS], h->at[GRANTS], h->bytes[GRANTS], words(h, TURNED));
+    number = kh_turn(memory_of(h), h->at[RINGS], h->bytes[RINGS], h->at[GRANTS], h->bytes[GRANTS], words(h, TURNED));
     check_kept(h, number, 1 << MEMORY | 1 << RINGS | 1 << TURNED);
-    if (number == KH_DONE)
+    if (number == KH_OK)
         check_turn(h);
     return number;
 }
@@ -246,10 +251,9 @@ static inline uint32_t do_complete(host *h, uint32_t port, uint32_t tag, uint32_
     uint32_t number;
     memset(h->at[COMPLETED], 0xA5, h->bytes[COMPLETED]);
     remember(h);
-    number =
-        kh_complete(words(h, MEMORY), h->at[RINGS], h->bytes[RINGS], port, tag, serial, result, words(h, COMPLETED));
+    number = kh_complete(memory_of(h), h->at[RINGS], h->bytes[RINGS], port, tag, serial, result, words(h, COMPLETED));
     check_kept(h, number, 1 << MEMORY | 1 << RINGS | 1 << COMPLETED);
-    if (number == KH_DONE)
+    if (number == KH_OK)
         check_completion(h, port, tag, serial, result);
     return number;
 }

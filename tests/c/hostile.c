@@ -47,7 +47,7 @@ static const struct {
 
 static unsigned long came[CALL_COUNT][LAST_NUMBER + 1];
 static unsigned long kinds[KH_OVERRUN + 1];
-static unsigned long reasons[KH_MISALIGNED + 1];
+static unsigned long reasons[KH_UNALIGNED + 1];
 
 static void begin_counts(void) {
     state = seed;
@@ -60,8 +60,8 @@ static void count(const host *h, enum call call, uint32_t number) {
     const uint64_t *answer = words(h, TURNED);
     CHECK(number <= LAST_NUMBER && (calls[call].numbers >> number & 1) != 0);
     came[call][number % (LAST_NUMBER + 1)]++;
-    if (call == CALL_TURN && number == KH_DONE) {
-        CHECK(answer[KH_TURN_KIND] <= KH_OVERRUN && answer[KH_TURN_REASON] <= KH_MISALIGNED);
+    if (call == CALL_TURN && number == KH_OK) {
+        CHECK(answer[KH_TURN_KIND] <= KH_OVERRUN && answer[KH_TURN_REASON] <= KH_UNALIGNED);
         kinds[answer[KH_TURN_KIND] % COUNT_OF(kinds)]++;
         reasons[answer[KH_TURN_REASON] % COUNT_OF(reasons)]++;
     }
@@ -76,7 +76,7 @@ static void print_counts(void) {
     for (unsigned kind = 0; kind < COUNT_OF(kinds); kind++)
         printf(" kind %u: %lu,", kind, kinds[kind]);
     for (unsigned reason = KH_UNKNOWN_OPERATION; reason < COUNT_OF(reasons); reason++)
-        printf(" reason %u: %lu%s", reason, reasons[reason], reason < KH_MISALIGNED ? "," : "\n");
+        printf(" reason %u: %lu%s", reason, reasons[reason], reason < KH_UNALIGNED ? "," : "\n");
 }
 
 /* All numbers came, kinds and reasons too. */
@@ -248,12 +248,12 @@ static void take_over_response(const host *h, uint64_t port) {
 static void turn_on_any_memory(host *h) {
     const uint64_t *answer = words(h, TURNED);
     uint32_t number =
-        kh_turn(words(h, MEMORY), h->at[RINGS], h->bytes[RINGS], h->at[GRANTS], h->bytes[GRANTS], words(h, TURNED));
+        kh_turn(memory_of(h), h->at[RINGS], h->bytes[RINGS], h->at[GRANTS], h->bytes[GRANTS], words(h, TURNED));
     count(h, CALL_TURN, number);
-    if (number == KH_DONE && answer[KH_TURN_KIND] == KH_IDLE)
+    if (number == KH_OK && answer[KH_TURN_KIND] == KH_IDLE)
         for (uint32_t port = 0; port < KH_PORTS; port++)
             take_over(h, port, KH_REQ_EVENT, 4);
-    if (number == KH_DONE && answer[KH_TURN_KIND] == KH_ANSWERED)
+    if (number == KH_OK && answer[KH_TURN_KIND] == KH_ANSWERED)
         take_over_response(h, answer[KH_TURN_PORT]);
     check_kept(h, number, 1 << MEMORY | 1 << TURNED);
 }
@@ -262,10 +262,10 @@ static void complete_on_any_memory(host *h) {
     uint32_t tag = below(KH_TAGS + 1);
     uint32_t port = any_port();
     uint32_t serial = one_in(2) ? (uint32_t)any() : below(4);
-    uint32_t number = kh_complete(words(h, MEMORY), h->at[RINGS], h->bytes[RINGS], port, tag, serial,
-                                  (int32_t)below(3) - 1, words(h, COMPLETED));
+    uint32_t number = kh_complete(memory_of(h), h->at[RINGS], h->bytes[RINGS], port, tag, serial, (int32_t)below(3) - 1,
+                                  words(h, COMPLETED));
     count(h, CALL_COMPLETE, number);
-    if (number == KH_DONE)
+    if (number == KH_OK)
         take_over_response(h, words(h, COMPLETED)[KH_DONE_PORT]);
     check_kept(h, number, 1 << MEMORY | 1 << COMPLETED);
 }
@@ -274,14 +274,14 @@ static void open_on_any_memory(host *h) {
     sheet s = any_sheet();
     uint8_t *lent = lend(s.length);
     memcpy(lent, s.bytes, s.length);
-    uint32_t number = kh_open(words(h, MEMORY), any_port(), lent, s.length);
+    uint32_t number = kh_open(memory_of(h), any_port(), lent, s.length);
     count(h, CALL_OPEN, number);
     check_kept(h, number, 1 << MEMORY);
     give_back(lent, s.length);
 }
 
 static void close_on_any_memory(host *h) {
-    uint32_t number = kh_close(words(h, MEMORY), any_port());
+    uint32_t number = kh_close(memory_of(h), any_port());
     count(h, CALL_CLOSE, number);
     check_kept(h, number, 1 << MEMORY);
 }

@@ -1,4 +1,4 @@
-/* Document 01's sizes, offsets and numbers, as named in kernelharp.h, are those of Xen's public headers. */
+/* The sizes, offsets and numbers of the rules, as named in kernelharp.h, are those of Xen's public headers. */
 #include "test.h"
 #include "xen.h"
 
@@ -60,7 +60,7 @@ static void layout_of_xen_headers(host *h) {
 }
 
 static void layout_protocol_name(host *h) {
-    CHECK_EQ(OPEN_NODES(h, 0, USUAL_NODES " 8:" XEN_IO_PROTO_ABI_X86_64), KH_DONE);
+    CHECK_EQ(OPEN_NODES(h, 0, USUAL_NODES " 8:" XEN_IO_PROTO_ABI_X86_64), KH_OK);
 }
 
 int main(void) {

@@ -66,7 +66,7 @@ static void guest_step(uint32_t port) {
 
 static kh_turned lent_turn(void) {
     uint64_t answer[KH_TURN_WORDS];
-    kh_turn(lender.words, (uint8_t *)lent, sizeof lent, grants, sizeof grants, answer);
+    kh_turn(&lender, (uint8_t *)lent, sizeof lent, grants, sizeof grants, answer);
     return kh_read_turn(answer);
 }
 
@@ -93,9 +93,9 @@ static void complete_both(const kh_turned *turned, int32_t result) {
     bool notify = false;
     uint32_t tag = turned->plan.tag, serial = turned->plan.serial;
     uint32_t here = host_complete(turned->port, tag, serial, result, &notify);
-    uint32_t there = kh_complete(lender.words, (uint8_t *)lent, sizeof lent, turned->port, tag, serial, result, answer);
+    uint32_t there = kh_complete(&lender, (uint8_t *)lent, sizeof lent, turned->port, tag, serial, result, answer);
     same("complete", here == there && notify == kh_read_completion(answer).notify);
-    refused += here != KH_DONE;
+    refused += here != KH_OK;
 }
 
 static void open_both(uint32_t port) {
@@ -106,8 +106,8 @@ static void open_both(uint32_t port) {
         published[port] = 0;
     }
     uint32_t here = host_open(port, sheet, sizeof sheet - 1, pages + PAGE_WORDS * port);
-    same("open", here == kh_open(lender.words, port, sheet, sizeof sheet - 1));
-    reopened += here == KH_DONE;
+    same("open", here == kh_open(&lender, port, sheet, sizeof sheet - 1));
+    reopened += here == KH_OK;
 }
 
 /*
@@ -132,7 +132,7 @@ static void step(uint32_t port) {
         open_both(port);
         break;
     case 1:
-        same("close", host_close(port) == kh_close(lender.words, port));
+        same("close", host_close(port) == kh_close(&lender, port));
         break;
     case 2:
         draw_back(port);

@@ -1,4 +1,4 @@
-/* One test or more for each reason number of document 01, on both sides of its line. */
+/* One test or more for each reason (rules 8.21 to 8.29), on both sides of its line. */
 #include "test.h"
 
 static request with_segment(request r, int i, uint32_t frame, uint8_t first, uint8_t last) {

@@ -12,7 +12,7 @@ static void refusal_01_wrong_length_in_turn(host *h) {
                                         {KH_RING_BYTES, KH_PORT_GRANTS},
                                         {1, 1},
                                         {0, 0}};
-    CHECK_EQ(TURN(h), KH_DONE);
+    CHECK_EQ(TURN(h), KH_OK);
     for (size_t i = 0; i < COUNT_OF(lengths); i++) {
         BEGIN(h, USUAL_NODES);
         resize(h, RINGS, lengths[i][0]);
@@ -28,14 +28,14 @@ static void refusal_01_wrong_length_in_complete(host *h) {
     for (size_t i = 0; i < COUNT_OF(lengths); i++) {
         BEGIN(h, USUAL_NODES);
         post(h, 0, transfer(KH_READ, 1, 0));
-        CHECK_EQ(TURN(h), KH_DONE);
+        CHECK_EQ(TURN(h), KH_OK);
         resize(h, RINGS, lengths[i]);
         CHECK_EQ(COMPLETE(h, 0, 0, 0, 8), 1);
         CHECK_EQ(COMPLETE(h, 8, 0, 0, 8), 1);
         CHECK_EQ(COMPLETE(h, 1, 0, 0, 8), 1);
         CHECK_EQ(COMPLETE(h, 0, 32, 0, 8), 1);
         resize(h, RINGS, KH_RINGS_BYTES);
-        CHECK_EQ(COMPLETE(h, 0, 0, 0, 8), KH_DONE);
+        CHECK_EQ(COMPLETE(h, 0, 0, 0, 8), KH_OK);
     }
 }
 
@@ -47,11 +47,11 @@ static void refusal_02_port_above_7(host *h) {
         CHECK_EQ(CLOSE(h, ports[i]), 2);
         CHECK_EQ(COMPLETE(h, ports[i], 32, 0, 0), 2);
     }
-    CHECK_EQ(OPEN_NODES(h, 7, USUAL_NODES), KH_DONE);
+    CHECK_EQ(OPEN_NODES(h, 7, USUAL_NODES), KH_OK);
     post(h, 7, transfer(KH_READ, 1, 0));
-    CHECK_EQ(TURN(h), KH_DONE);
-    CHECK_EQ(COMPLETE(h, 7, 0, 0, 8), KH_DONE);
-    CHECK_EQ(CLOSE(h, 7), KH_DONE);
+    CHECK_EQ(TURN(h), KH_OK);
+    CHECK_EQ(COMPLETE(h, 7, 0, 0, 8), KH_OK);
+    CHECK_EQ(CLOSE(h, 7), KH_OK);
 }
 
 static void refusal_03_port_not_closed(host *h) {
@@ -59,12 +59,12 @@ static void refusal_03_port_not_closed(host *h) {
     CHECK_EQ(OPEN_NODES(h, 0, USUAL_NODES), 3);
     CHECK_EQ(OPEN(h, 0, NULL, 0), 3);
     set_index(h, 0, KH_REQ_PROD, 33);
-    CHECK_EQ(TURN(h), KH_DONE);
+    CHECK_EQ(TURN(h), KH_OK);
     CHECK_EQ(words(h, TURNED)[KH_TURN_KIND], KH_OVERRUN);
     CHECK_EQ(OPEN_NODES(h, 0, USUAL_NODES), 3);
-    CHECK_EQ(CLOSE(h, 0), KH_DONE);
-    CHECK_EQ(OPEN_NODES(h, 0, USUAL_NODES), KH_DONE);
-    CHECK_EQ(OPEN_NODES(h, 1, USUAL_NODES), KH_DONE);
+    CHECK_EQ(CLOSE(h, 0), KH_OK);
+    CHECK_EQ(OPEN_NODES(h, 0, USUAL_NODES), KH_OK);
+    CHECK_EQ(OPEN_NODES(h, 1, USUAL_NODES), KH_OK);
 }
 
 static void refusal_04_port_closed(host *h) {
@@ -72,9 +72,9 @@ static void refusal_04_port_closed(host *h) {
         CHECK_EQ(CLOSE(h, port), 4);
         CHECK_EQ(COMPLETE(h, port, 0, 0, 0), 4);
         CHECK_EQ(COMPLETE(h, port, 32, 0, 0), 4);
-        CHECK_EQ(OPEN_NODES(h, port, USUAL_NODES), KH_DONE);
+        CHECK_EQ(OPEN_NODES(h, port, USUAL_NODES), KH_OK);
         CHECK_EQ(COMPLETE(h, port, 0, 0, 0), 6);
-        CHECK_EQ(CLOSE(h, port), KH_DONE);
+        CHECK_EQ(CLOSE(h, port), KH_OK);
         CHECK_EQ(CLOSE(h, port), 4);
     }
 }
@@ -83,28 +83,28 @@ static void refusal_05_in_flight(host *h) {
     BEGIN(h, USUAL_NODES);
     post(h, 0, transfer(KH_READ, 1, 0));
     post(h, 0, transfer(KH_READ, 0, 0));
-    CHECK_EQ(TURN(h), KH_DONE);
+    CHECK_EQ(TURN(h), KH_OK);
     CHECK_EQ(CLOSE(h, 0), 5);
-    CHECK_EQ(TURN(h), KH_DONE); /* answered at once, so not in flight */
+    CHECK_EQ(TURN(h), KH_OK); /* answered at once, so not in flight */
     set_index(h, 0, KH_REQ_PROD, 0);
-    CHECK_EQ(TURN(h), KH_DONE);
+    CHECK_EQ(TURN(h), KH_OK);
     CHECK_EQ(words(h, TURNED)[KH_TURN_KIND], KH_OVERRUN);
     CHECK_EQ(CLOSE(h, 0), 5);
-    CHECK_EQ(COMPLETE(h, 0, 0, 0, 8), KH_DONE);
-    CHECK_EQ(CLOSE(h, 0), KH_DONE);
+    CHECK_EQ(COMPLETE(h, 0, 0, 0, 8), KH_OK);
+    CHECK_EQ(CLOSE(h, 0), KH_OK);
 }
 
 static void refusal_05_requests_waiting_only(host *h) {
     BEGIN(h, USUAL_NODES);
     post(h, 0, transfer(KH_READ, 1, 0));
-    CHECK_EQ(CLOSE(h, 0), KH_DONE);
+    CHECK_EQ(CLOSE(h, 0), KH_OK);
 }
 
 /* A read in flight on port 0: tag 0, serial 0. */
 static void begin_in_flight(host *h) {
     BEGIN(h, USUAL_NODES);
     post(h, 0, transfer(KH_READ, 1, 0));
-    CHECK_EQ(TURN(h), KH_DONE);
+    CHECK_EQ(TURN(h), KH_OK);
 }
 
 static void refusal_06_tag_above_31(host *h) {
@@ -112,24 +112,24 @@ static void refusal_06_tag_above_31(host *h) {
     begin_in_flight(h);
     for (size_t i = 0; i < COUNT_OF(tags); i++)
         CHECK_EQ(COMPLETE(h, 0, tags[i], 0, 8), 6);
-    CHECK_EQ(COMPLETE(h, 0, 0, 0, 8), KH_DONE);
+    CHECK_EQ(COMPLETE(h, 0, 0, 0, 8), KH_OK);
 }
 
 static void refusal_06_tag_31_is_a_tag(host *h) {
     BEGIN(h, USUAL_NODES);
     for (int i = 0; i < KH_TAGS; i++) {
         post(h, 0, transfer(KH_READ, 1, 0));
-        CHECK_EQ(TURN(h), KH_DONE);
+        CHECK_EQ(TURN(h), KH_OK);
     }
     CHECK_EQ(words(h, TURNED)[KH_TURN_TAG], 31);
-    CHECK_EQ(COMPLETE(h, 0, 31, 31, 8), KH_DONE);
+    CHECK_EQ(COMPLETE(h, 0, 31, 31, 8), KH_OK);
 }
 
 static void refusal_06_not_busy(host *h) {
     begin_in_flight(h);
     for (uint32_t tag = 1; tag < KH_TAGS; tag++)
         CHECK_EQ(COMPLETE(h, 0, tag, 0, 8), 6);
-    CHECK_EQ(COMPLETE(h, 0, 0, 0, 8), KH_DONE);
+    CHECK_EQ(COMPLETE(h, 0, 0, 0, 8), KH_OK);
     CHECK_EQ(COMPLETE(h, 0, 0, 0, 8), 6);
 }
 
@@ -138,11 +138,11 @@ static void refusal_06_another_serial(host *h) {
     begin_in_flight(h);
     for (size_t i = 0; i < COUNT_OF(serials); i++)
         CHECK_EQ(COMPLETE(h, 0, 0, serials[i], 8), 6);
-    CHECK_EQ(COMPLETE(h, 0, 0, 0, 8), KH_DONE);
+    CHECK_EQ(COMPLETE(h, 0, 0, 0, 8), KH_OK);
     post(h, 0, transfer(KH_READ, 1, 0));
-    CHECK_EQ(TURN(h), KH_DONE);
+    CHECK_EQ(TURN(h), KH_OK);
     CHECK_EQ(COMPLETE(h, 0, 0, 0, 8), 6);
-    CHECK_EQ(COMPLETE(h, 0, 0, 1, 8), KH_DONE);
+    CHECK_EQ(COMPLETE(h, 0, 0, 1, 8), KH_OK);
 }
 
 int main(void) {

@@ -4,8 +4,8 @@
 /* The number that a sheet gets on a closed port. */
 static uint32_t do_read_sheet(host *h, sheet s) {
     uint32_t number = do_open(h, 0, s.bytes, s.length);
-    if (number == KH_DONE)
-        CHECK_EQ(do_close(h, 0), KH_DONE);
+    if (number == KH_OK)
+        CHECK_EQ(do_close(h, 0), KH_OK);
     return number;
 }
 
@@ -32,20 +32,20 @@ static void sheet_of_21_bytes(host *h) {
                                       0x04, 0x00, 0x77, 0x35, 0x31, 0x32, 0x32, 0x30, 0x30, 0x38};
     sheet s = sheet_of(USUAL_NODES);
     CHECK(s.length == sizeof bytes && memcmp(s.bytes, bytes, sizeof bytes) == 0);
-    CHECK_EQ(OPEN(h, 0, bytes, sizeof bytes), KH_DONE);
+    CHECK_EQ(OPEN(h, 0, bytes, sizeof bytes), KH_OK);
 }
 
 static void refusal_11_empty(host *h) {
     uint8_t *nothing = lend(0);
     CHECK_EQ(OPEN(h, 0, NULL, 0), 11);
-    CHECK_EQ(kh_open(words(h, MEMORY), 0, nothing, 0), 11);
+    CHECK_EQ(kh_open(memory_of(h), 0, nothing, 0), 11);
     CHECK_EQ(READ_NODES(h, ""), 15); /* no entries, and that is well formed */
     give_back(nothing, 0);
 }
 
 static void refusal_11_more_than_9_entries(host *h) {
     sheet s = sheet_of("1:r 2:0 3:0 4:0 5:0 6:512 7:1 8:x86_64-abi 9:0");
-    CHECK_EQ(READ_BYTES(h, s), KH_DONE);
+    CHECK_EQ(READ_BYTES(h, s), KH_OK);
     s = sheet_of("1:r 2:0 3:0 4:0 5:0 6:512 7:1 8:x86_64-abi 9:0 9:0");
     CHECK_EQ(READ_BYTES(h, s), 11);
     s.bytes[0] = 255;
@@ -56,14 +56,14 @@ static void refusal_11_reserved_byte(host *h) {
     for (size_t entry = 0; entry < 3; entry++) {
         CHECK_EQ(READ_BYTES(h, usual_but(2 + 4 * entry, 1)), 11);
         CHECK_EQ(READ_BYTES(h, usual_but(2 + 4 * entry, 0x80)), 11);
-        CHECK_EQ(READ_BYTES(h, usual_but(2 + 4 * entry, 0)), KH_DONE);
+        CHECK_EQ(READ_BYTES(h, usual_but(2 + 4 * entry, 0)), KH_OK);
     }
 }
 
 static void refusal_11_wrong_total_length(host *h) {
     sheet s = usual_but(21, '0');
     for (s.length = 1; s.length <= 22; s.length++)
-        CHECK_EQ(READ_BYTES(h, s), s.length == 21 ? KH_DONE : 11);
+        CHECK_EQ(READ_BYTES(h, s), s.length == 21 ? KH_OK : 11);
     CHECK_EQ(READ_BYTES(h, usual_but(11, 3)), 11);
     CHECK_EQ(READ_BYTES(h, usual_but(11, 5)), 11);
     CHECK_EQ(READ_BYTES(h, usual_but(12, 1)), 11);
@@ -82,7 +82,7 @@ static void refusal_12_node_0_or_above_9(host *h) {
     CHECK_EQ(READ_BYTES(h, usual_but(1, 0)), 12);
     CHECK_EQ(READ_BYTES(h, usual_but(9, 10)), 12);
     CHECK_EQ(READ_BYTES(h, usual_but(9, 255)), 12);
-    CHECK_EQ(READ_NODES(h, USUAL_NODES " 9:0"), KH_DONE);
+    CHECK_EQ(READ_NODES(h, USUAL_NODES " 9:0"), KH_OK);
 }
 
 static void refusal_12_not_rising(host *h) {
@@ -112,7 +112,7 @@ static void refusal_13_text(host *h) {
     static const char *const right[] = {"1:r 6:512 7:1", "1:w 6:512 7:1", "1:w 2:0 3:1 4:0 5:1 6:512 7:1",
                                         "1:w 2:1 3:0 4:1 5:0 6:512 7:1", "1:w 6:512 7:1 8:x86_64-abi"};
     READ_EACH(h, wrong, 13);
-    READ_EACH(h, right, KH_DONE);
+    READ_EACH(h, right, KH_OK);
 }
 
 static void refusal_13_not_a_number(host *h) {
@@ -124,7 +124,7 @@ static void refusal_13_not_a_number(host *h) {
                                         "1:w 6:512 7::",      "1:w 6:512 7:1 9:",
                                         "1:w 6:512 7:1 9:00", "1:w 6:512 7:18446744073709551616x"};
     READ_EACH(h, wrong, 13);
-    CHECK_EQ(READ_NODES(h, "1:w 6:512 7:0"), KH_DONE);
+    CHECK_EQ(READ_NODES(h, "1:w 6:512 7:0"), KH_OK);
 }
 
 static void refusal_14_number_not_allowed(host *h) {
@@ -142,7 +142,7 @@ static void refusal_14_number_not_allowed(host *h) {
     static const char *const right[] = {"1:w 6:512 7:1",  "1:w 6:1024 7:1",    "1:w 6:2048 7:1",
                                         "1:w 6:4096 7:1", "1:w 6:512 7:1 9:0", "1:w 6:512 7:18446744073709551615"};
     READ_EACH(h, wrong, 14);
-    READ_EACH(h, right, KH_DONE);
+    READ_EACH(h, right, KH_OK);
 }
 
 /* The longest body that a length of 16 bits can give, all of one digit. */
@@ -172,7 +172,7 @@ static void refusal_15_node_missing(host *h) {
     CHECK_EQ(READ_NODES(h, "1:w 7:2008"), 15);
     CHECK_EQ(READ_NODES(h, "1:w 6:512"), 15);
     CHECK_EQ(READ_NODES(h, "2:1 3:1 4:1 5:1 8:x86_64-abi 9:0"), 15);
-    CHECK_EQ(READ_NODES(h, "1:w 6:512 7:2008"), KH_DONE);
+    CHECK_EQ(READ_NODES(h, "1:w 6:512 7:2008"), KH_OK);
 }
 
 int main(void) {

@@ -106,10 +106,10 @@ static inline uint32_t do_finish(host *h) {
 static inline uint32_t do_judge(host *h, request r) {
     const uint64_t *answer = words(h, TURNED);
     post(h, 0, r);
-    CHECK_EQ(do_turn(h), KH_DONE);
+    CHECK_EQ(do_turn(h), KH_OK);
     CHECK(answer[KH_TURN_KIND] == KH_STARTED || answer[KH_TURN_KIND] == KH_ANSWERED);
     if (answer[KH_TURN_KIND] == KH_STARTED)
-        CHECK_EQ(do_finish(h), KH_DONE);
+        CHECK_EQ(do_finish(h), KH_OK);
     return (uint32_t)answer[KH_TURN_REASON];
 }
 
@@ -118,7 +118,7 @@ static inline uint32_t do_judge(host *h, request r) {
 /* Port 0 of an empty backend opened with these nodes. */
 static inline void do_begin(host *h, const char *nodes) {
     reset(h);
-    CHECK_EQ(do_open_nodes(h, 0, nodes), KH_DONE);
+    CHECK_EQ(do_open_nodes(h, 0, nodes), KH_OK);
 }
 
 #define BEGIN(h, nodes) MADE_HERE(do_begin(h, nodes))

@@ -3,7 +3,7 @@
 
 /* A turn's kind, with its port checked. */
 static uint64_t do_serve(host *h, uint32_t port) {
-    CHECK_EQ(do_turn(h), KH_DONE);
+    CHECK_EQ(do_turn(h), KH_OK);
     CHECK_EQ(words(h, TURNED)[KH_TURN_PORT], port);
     return words(h, TURNED)[KH_TURN_KIND];
 }
@@ -23,8 +23,8 @@ static void begin_at(host *h, unsigned answered, unsigned in_flight) {
 
 /* Port 0 closed and opened again, with its guest's ring new too. */
 static void reopen(host *h) {
-    CHECK_EQ(CLOSE(h, 0), KH_DONE);
-    CHECK_EQ(OPEN_NODES(h, 0, USUAL_NODES), KH_DONE);
+    CHECK_EQ(CLOSE(h, 0), KH_OK);
+    CHECK_EQ(OPEN_NODES(h, 0, USUAL_NODES), KH_OK);
     set_index(h, 0, KH_REQ_PROD, 0);
 }
 
@@ -90,7 +90,7 @@ static void line_indices_wrap(host *h) {
     CHECK_EQ(index_at(h, 0, KH_REQ_PROD), 0);
     CHECK_EQ(SERVE(h, 0), KH_STARTED);
     CHECK_EQ(words(h, TURNED)[KH_TURN_SERIAL], UINT32_MAX);
-    CHECK_EQ(FINISH(h), KH_DONE);
+    CHECK_EQ(FINISH(h), KH_OK);
     CHECK_EQ(index_at(h, 0, KH_RSP_PROD), 0);
     CHECK_EQ(get(slot_in(ring(h, 0), 31), 8), FIRST_ID + UINT32_MAX);
     post(h, 0, transfer(KH_READ, 0, 0)); /* slot 0 */
@@ -110,8 +110,8 @@ static void overrun_breaks_the_port(host *h) {
     CHECK_EQ(SERVE(h, 0), KH_OVERRUN);
     set_index(h, 0, KH_REQ_PROD, 3);
     CHECK_EQ(SERVE(h, 0), KH_IDLE); /* and its req_event stays */
-    CHECK_EQ(COMPLETE(h, 0, 1, 1, 8), KH_DONE);
-    CHECK_EQ(COMPLETE(h, 0, 0, 0, -5), KH_DONE);
+    CHECK_EQ(COMPLETE(h, 0, 1, 1, 8), KH_OK);
+    CHECK_EQ(COMPLETE(h, 0, 0, 0, -5), KH_OK);
     CHECK_EQ(SERVE(h, 0), KH_IDLE);
     reopen(h);
     post(h, 0, transfer(KH_READ, 1, 0));
@@ -123,8 +123,8 @@ static void idle_sets_req_event_of_open_ports(host *h) {
     memset(h->at[RINGS], 0xEE, KH_RINGS_BYTES); /* closed ports have nothing to serve, whatever is there */
     CHECK_EQ(SERVE(h, 0), KH_IDLE);
     memset(h->at[RINGS], 0, KH_RINGS_BYTES);
-    CHECK_EQ(OPEN_NODES(h, 2, USUAL_NODES), KH_DONE);
-    CHECK_EQ(OPEN_NODES(h, 5, USUAL_NODES), KH_DONE);
+    CHECK_EQ(OPEN_NODES(h, 2, USUAL_NODES), KH_OK);
+    CHECK_EQ(OPEN_NODES(h, 5, USUAL_NODES), KH_OK);
     CHECK_EQ(SERVE(h, 0), KH_IDLE);
     CHECK_EQ(index_at(h, 2, KH_REQ_EVENT), 1);
     CHECK_EQ(index_at(h, 5, KH_REQ_EVENT), 1);
@@ -137,7 +137,7 @@ static void idle_sets_req_event_of_open_ports(host *h) {
 
 static void ports_in_ring_order(host *h) {
     for (uint32_t port = 0; port < KH_PORTS; port++) {
-        CHECK_EQ(OPEN_NODES(h, port, USUAL_NODES), KH_DONE);
+        CHECK_EQ(OPEN_NODES(h, port, USUAL_NODES), KH_OK);
         for (int i = 0; i < 3; i++)
             post(h, port, transfer(KH_READ, 1, 0));
     }
@@ -154,14 +154,14 @@ static void ports_in_ring_order(host *h) {
 }
 
 static void only_a_service_moves_the_pointer(host *h) {
-    CHECK_EQ(OPEN_NODES(h, 2, USUAL_NODES), KH_DONE);
-    CHECK_EQ(OPEN_NODES(h, 6, USUAL_NODES), KH_DONE);
+    CHECK_EQ(OPEN_NODES(h, 2, USUAL_NODES), KH_OK);
+    CHECK_EQ(OPEN_NODES(h, 6, USUAL_NODES), KH_OK);
     post(h, 2, transfer(KH_READ, 1, 0));
     CHECK_EQ(SERVE(h, 2), KH_STARTED);
-    CHECK_EQ(COMPLETE(h, 2, 0, 0, 8), KH_DONE);
+    CHECK_EQ(COMPLETE(h, 2, 0, 0, 8), KH_OK);
     CHECK_EQ(SERVE(h, 0), KH_IDLE);
-    CHECK_EQ(OPEN_NODES(h, 7, USUAL_NODES), KH_DONE);
-    CHECK_EQ(CLOSE(h, 7), KH_DONE);
+    CHECK_EQ(OPEN_NODES(h, 7, USUAL_NODES), KH_OK);
+    CHECK_EQ(CLOSE(h, 7), KH_OK);
     post(h, 2, transfer(KH_READ, 1, 0));
     post(h, 6, transfer(KH_READ, 1, 0));
     CHECK_EQ(SERVE(h, 6), KH_STARTED);
@@ -203,8 +203,8 @@ static void plan_of_a_discard(host *h) {
 
 static void lowest_free_tag_comes_back(host *h) {
     begin_at(h, 0, 32);
-    CHECK_EQ(COMPLETE(h, 0, 20, 20, 8), KH_DONE);
-    CHECK_EQ(COMPLETE(h, 0, 3, 3, 8), KH_DONE);
+    CHECK_EQ(COMPLETE(h, 0, 20, 20, 8), KH_OK);
+    CHECK_EQ(COMPLETE(h, 0, 3, 3, 8), KH_OK);
     for (uint32_t tag = 3; tag <= 20; tag += 17) {
         post(h, 0, transfer(KH_READ, 1, 0));
         CHECK_EQ(SERVE(h, 0), KH_STARTED);
@@ -215,12 +215,12 @@ static void lowest_free_tag_comes_back(host *h) {
 
 static void stale_completion_of_a_newer_request(host *h) {
     begin_at(h, 0, 1);
-    CHECK_EQ(COMPLETE(h, 0, 0, 0, 8), KH_DONE);
+    CHECK_EQ(COMPLETE(h, 0, 0, 0, 8), KH_OK);
     reopen(h);
     CHECK_EQ(COMPLETE(h, 0, 0, 0, 8), 6);
     post(h, 0, transfer(KH_READ, 1, 0));
     CHECK_EQ(SERVE(h, 0), KH_STARTED);
-    CHECK_EQ(COMPLETE(h, 0, 0, 0, 8), KH_DONE);
+    CHECK_EQ(COMPLETE(h, 0, 0, 0, 8), KH_OK);
 }
 
 /* The status that a result gives to the request that one turn starts. */
@@ -228,7 +228,7 @@ static int32_t status_of(host *h, request r, int32_t result) {
     BEGIN(h, ALL_FEATURES);
     post(h, 0, r);
     CHECK_EQ(SERVE(h, 0), KH_STARTED);
-    CHECK_EQ(COMPLETE(h, 0, 0, 0, result), KH_DONE);
+    CHECK_EQ(COMPLETE(h, 0, 0, 0, result), KH_OK);
     return kh_read_completion(words(h, COMPLETED)).status;
 }
 
@@ -292,7 +292,7 @@ static void two_backends_are_apart(host *h) {
     kh_memory other;
     memset(&other, 0, sizeof other);
     begin_at(h, 0, 1);
-    CHECK_EQ(kh_close(other.words, 0), KH_PORT_CLOSED);
+    CHECK_EQ(kh_close(&other, 0), KH_IS_CLOSED);
     CHECK_EQ(CLOSE(h, 0), KH_IN_FLIGHT);
 }
 

@@ -56,7 +56,8 @@ static void check(const struct scenario *scenario) {
     call_backend(backend, &scenario->call, rings, &outcome);
     trap_end();
     if (!is_expected(scenario, &outcome))
-        fail("%s: another outcome: %u, kind %u", scenario->name, outcome.refusal, (unsigned)outcome.answer[0]);
+        fail("%s: another outcome: %u, kind %u", scenario->name, outcome.refusal,
+             (unsigned)outcome.answer[KH_TURN_KIND]);
     struct counts counts = count(&trace);
     counts.faults = judge(scenario, &trace);
     add(&of_name, &counts);

@@ -35,17 +35,17 @@ void map_buffers(void) {
         fail("mprotect of the markers");
     if (mprotect(rings, KH_RINGS_BYTES, PROT_READ | PROT_WRITE) != 0)
         fail("mprotect of the rings");
-    if (kh_memory_words() != KH_MEMORY_WORDS)
-        fail("the archive asks for %u words of memory", kh_memory_words());
+    if (kh_version() != KH_VERSION || kh_memory_words() != KH_MEMORY_WORDS)
+        fail("an archive of version %u with %u words of memory", kh_version(), kh_memory_words());
 }
 
 void call_backend(const struct backend *backend, const struct call *call, uint8_t *lent, struct outcome *outcome) {
     if (call->completes)
-        outcome->refusal = backend->complete(bench.memory, lent, call->rings_bytes, call->port, call->tag, call->serial,
-                                             call->result, outcome->answer);
+        outcome->refusal = backend->complete(&bench.memory, lent, call->rings_bytes, call->port, call->tag,
+                                             call->serial, call->result, outcome->answer);
     else
         outcome->refusal =
-            backend->turn(bench.memory, lent, call->rings_bytes, bench.grants, call->grants_bytes, outcome->answer);
+            backend->turn(&bench.memory, lent, call->rings_bytes, bench.grants, call->grants_bytes, outcome->answer);
 }
 
 uint32_t load32(const uint8_t *from) {

@@ -11,14 +11,14 @@ enum { REQ_PROD = 0, REQ_EVENT = 4, RSP_PROD = 8, RSP_EVENT = 12, FIRST_SLOT = 6
 
 enum state { CLOSED, OPEN, BROKEN };
 
-/* What the turn's answers tell of a port: document 01's C and R among it. */
+/* What the turn's answers tell of a port: C and R (rule 4.2) among it. */
 struct book {
     enum state state;
     uint32_t taken, answered;
 };
 
 struct bench {
-    uint64_t memory[KH_MEMORY_WORDS];
+    kh_memory memory;
     uint8_t grants[KH_GRANTS_BYTES];
     struct book ports[PORTS];
     unsigned pointer;
@@ -49,8 +49,8 @@ struct outcome {
 
 /* What is called: the archive, or a stand-in for it. */
 struct backend {
-    uint32_t (*turn)(uint64_t *, uint8_t *, size_t, const uint8_t *, size_t, uint64_t *);
-    uint32_t (*complete)(uint64_t *, uint8_t *, size_t, uint32_t, uint32_t, uint32_t, int32_t, uint64_t *);
+    uint32_t (*turn)(kh_memory *, uint8_t *, size_t, const uint8_t *, size_t, uint64_t *);
+    uint32_t (*complete)(kh_memory *, uint8_t *, size_t, uint32_t, uint32_t, uint32_t, int32_t, uint64_t *);
 };
 
 extern const struct backend archive;

@@ -21,7 +21,7 @@ static struct counts of_name, of_all;
 
 /* The backend and rings before the call. */
 static struct {
-    uint64_t memory[KH_MEMORY_WORDS];
+    kh_memory memory;
     uint8_t rings[KH_RINGS_BYTES];
 } before;
 
@@ -30,7 +30,7 @@ static unsigned moments, moment;
 static struct result as_old, as_new;
 
 static void restore(void) {
-    memcpy(bench.memory, before.memory, sizeof before.memory);
+    bench.memory = before.memory;
     memcpy(rings, before.rings, sizeof before.rings);
 }
 
@@ -126,7 +126,7 @@ static void try_scenario(const struct scenario *next) {
     if (strncmp(next->name, only_names, strlen(only_names)) != 0)
         return;
     scenario = next;
-    memcpy(before.memory, bench.memory, sizeof before.memory);
+    before.memory = bench.memory;
     memcpy(before.rings, rings, sizeof before.rings);
     traced_call(backend, &scenario->call, NULL, &trace, &as_old);
     moments = trace.count;

@@ -3,7 +3,7 @@
 #include <string.h>
 
 void reset(void) {
-    memset(bench.memory, 0, sizeof bench.memory);
+    memset(&bench.memory, 0, sizeof bench.memory);
     memset(bench.ports, 0, sizeof bench.ports);
     bench.pointer = 0;
 }
@@ -20,8 +20,8 @@ void fill_rings(void) {
 }
 
 static void turn_of(unsigned port, uint64_t *answer) {
-    uint32_t refusal = kh_turn(bench.memory, rings, KH_RINGS_BYTES, bench.grants, KH_GRANTS_BYTES, answer);
-    if (refusal != 0 || answer[1] != port)
+    uint32_t refusal = kh_turn(&bench.memory, rings, KH_RINGS_BYTES, bench.grants, KH_GRANTS_BYTES, answer);
+    if (refusal != KH_OK || answer[KH_TURN_PORT] != port)
         fail("a turn was to serve port %u", port);
     bench.pointer = (port + 1) % PORTS;
 }
@@ -31,19 +31,19 @@ uint32_t serve(unsigned port, const struct request *request) {
     uint64_t answer[KH_TURN_WORDS];
     put_request(port, book->taken, request);
     turn_of(port, answer);
-    if (answer[0] != (request->reason ? ANSWERED : STARTED))
-        fail("%s on port %u: kind %u", request->name, port, (unsigned)answer[0]);
+    if (answer[KH_TURN_KIND] != (request->reason ? ANSWERED : STARTED))
+        fail("%s on port %u: kind %u", request->name, port, (unsigned)answer[KH_TURN_KIND]);
     book->taken++;
     if (request->reason)
         book->answered++;
-    return (uint32_t)answer[2];
+    return (uint32_t)answer[KH_TURN_TAG];
 }
 
 void overrun(unsigned port) {
     uint64_t answer[KH_TURN_WORDS];
     store32(rings + header_at(port, REQ_PROD), bench.ports[port].taken + SLOTS + 1);
     turn_of(port, answer);
-    if (answer[0] != OVERRUN)
+    if (answer[KH_TURN_KIND] != OVERRUN)
         fail("port %u was to overrun", port);
     bench.ports[port].state = BROKEN;
 }
@@ -53,7 +53,7 @@ void set_notify(unsigned port, bool notify) {
 }
 
 static void close_port(unsigned port) {
-    if (kh_close(bench.memory, port) != 0)
+    if (kh_close(&bench.memory, port) != KH_OK)
         fail("port %u does not close", port);
     bench.ports[port].state = CLOSED;
 }

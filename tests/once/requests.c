@@ -92,8 +92,8 @@ static size_t write_sheet(uint8_t *sheet, const struct disk *disk) {
 void open_port(unsigned port, const struct disk *disk) {
     uint8_t sheet[128];
     size_t bytes = write_sheet(sheet, disk ? disk : &full);
-    uint32_t refusal = kh_open(bench.memory, port, sheet, bytes);
-    if (refusal != 0)
+    uint32_t refusal = kh_open(&bench.memory, port, sheet, bytes);
+    if (refusal != KH_OK)
         fail("open of port %u refused: %u", port, refusal);
     bench.ports[port] = (struct book){.state = OPEN};
     store32(rings + header_at(port, REQ_PROD), 0);

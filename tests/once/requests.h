@@ -1,4 +1,4 @@
-/* Requests of every kind, with what document 01 says of each, and the node sheets of the disks that they go to. */
+/* Requests of every kind, with what the rules say of each, and the node sheets of the disks that they go to. */
 #ifndef ONCE_REQUESTS_H
 #define ONCE_REQUESTS_H
 

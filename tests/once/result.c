@@ -33,7 +33,7 @@ void traced_call(const struct backend *backend, const struct call *call, meddler
     trap_begin(trace, meddle);
     call_backend(backend, call, rings, &result->outcome);
     trap_end();
-    memcpy(result->memory, bench.memory, sizeof result->memory);
+    result->memory = bench.memory;
     note_stores(result, trace);
 }
 
@@ -49,5 +49,5 @@ static bool is_same_stored(const struct result *one, const struct result *other)
 bool is_same(const struct result *one, const struct result *other) {
     return one->outcome.refusal == other->outcome.refusal &&
            memcmp(one->outcome.answer, other->outcome.answer, sizeof one->outcome.answer) == 0 &&
-           memcmp(one->memory, other->memory, sizeof one->memory) == 0 && is_same_stored(one, other);
+           memcmp(&one->memory, &other->memory, sizeof one->memory) == 0 && is_same_stored(one, other);
 }

@@ -14,7 +14,7 @@ struct stored {
 
 struct result {
     struct outcome outcome;
-    uint64_t memory[KH_MEMORY_WORDS];
+    kh_memory memory;
     unsigned stored_count;
     struct stored stored[MOST_STORED];
 };

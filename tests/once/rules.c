@@ -98,7 +98,8 @@ unsigned judge(const struct scenario *scenario, const struct trace *trace) {
 }
 
 static bool is_completed(const struct expect *expect, const uint64_t *answer) {
-    return answer[0] == expect->port && answer[1] == expect->status && answer[2] == expect->notify;
+    return answer[KH_DONE_PORT] == expect->port && answer[KH_DONE_STATUS] == expect->status &&
+           answer[KH_DONE_NOTIFY] == expect->notify;
 }
 
 bool is_expected(const struct scenario *scenario, const struct outcome *outcome) {
@@ -110,8 +111,9 @@ bool is_expected(const struct scenario *scenario, const struct outcome *outcome)
         return true;
     if (expect->kind == COMPLETED)
         return is_completed(expect, answer);
-    if (answer[0] != expect->kind || answer[1] != expect->port)
+    if (answer[KH_TURN_KIND] != expect->kind || answer[KH_TURN_PORT] != expect->port)
         return false;
     return expect->kind != ANSWERED ||
-           (answer[9] == expect->reason && answer[10] == expect->status && answer[11] == expect->notify);
+           (answer[KH_TURN_REASON] == expect->reason && answer[KH_TURN_STATUS] == expect->status &&
+            answer[KH_TURN_NOTIFY] == expect->notify);
 }

@@ -11,7 +11,7 @@ bool is_expected(const struct scenario *scenario, const struct outcome *outcome)
 /* The number of faults: bytes loaded or stored twice, or not named by the rules. Each is printed. */
 unsigned judge(const struct scenario *scenario, const struct trace *trace);
 
-/* A byte of the rings, as a reader of document 01 would call it. */
+/* A byte of the rings, as a reader of docs/RULES.md would call it. */
 const char *place_name(unsigned at);
 
 #endif

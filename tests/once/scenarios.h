@@ -1,4 +1,4 @@
-/* The calls to look at: each is made ready and handed to a visitor, with what document 01 says of its outcome. */
+/* The calls to look at: each is made ready and handed to a visitor, with what the rules say of its outcome. */
 #ifndef ONCE_SCENARIOS_H
 #define ONCE_SCENARIOS_H
 

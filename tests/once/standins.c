@@ -127,39 +127,39 @@ static void give_response(unsigned port) {
 /* The old worker's: judged by one look at the slot, done by another. */
 static void look_again(unsigned port, uint64_t *answer) {
     unsigned at = slot_at(port, bench.ports[port].taken) + 24;
-    for (unsigned i = 0; i < answer[8]; i++) {
+    for (unsigned i = 0; i < answer[KH_TURN_EXTENT_COUNT]; i++) {
         take32(at + 8 * i);
-        answer[16 + 4 * i] = load32(copy + at + 8 * i);
+        answer[KH_TURN_EXTENTS + KH_EXTENT_WORDS * i + KH_EXTENT_FRAME] = load32(copy + at + 8 * i);
     }
 }
 
 static void end_turn(unsigned port, uint64_t *answer) {
-    if (answer[0] == IDLE)
+    if (answer[KH_TURN_KIND] == IDLE)
         for (unsigned k = 0; k < PORTS; k++)
             if (bench.ports[k].state == OPEN)
                 give32(header_at(k, REQ_EVENT));
-    if (answer[0] == ANSWERED)
+    if (answer[KH_TURN_KIND] == ANSWERED)
         give_response(port);
-    if (answer[0] == STARTED && fault == SECOND_LOOK)
+    if (answer[KH_TURN_KIND] == STARTED && fault == SECOND_LOOK)
         look_again(port, answer);
-    if (answer[0] == STARTED && fault == RSP_EVENT_ALWAYS)
+    if (answer[KH_TURN_KIND] == STARTED && fault == RSP_EVENT_ALWAYS)
         take_rsp_event(port);
-    if (answer[0] == STARTED && fault == ARMED_ON_SERVICE)
+    if (answer[KH_TURN_KIND] == STARTED && fault == ARMED_ON_SERVICE)
         give32(header_at(port, REQ_EVENT));
 }
 
 /* A call on copies, to see whether it would give a response: only then may rsp_event be looked at. */
 static struct {
-    uint64_t memory[KH_MEMORY_WORDS];
+    kh_memory memory;
     uint8_t rings[KH_RINGS_BYTES];
 } trial;
 
-static void copy_for_trial(const uint64_t *memory) {
-    memcpy(trial.memory, memory, sizeof trial.memory);
+static void copy_for_trial(const kh_memory *memory) {
+    trial.memory = *memory;
     memcpy(trial.rings, copy, sizeof trial.rings);
 }
 
-static uint32_t turn(uint64_t *memory, uint8_t *lent, size_t rings_bytes, const uint8_t *grants, size_t grants_bytes,
+static uint32_t turn(kh_memory *memory, uint8_t *lent, size_t rings_bytes, const uint8_t *grants, size_t grants_bytes,
                      uint64_t *answer) {
     if (rings_bytes != KH_RINGS_BYTES || grants_bytes != KH_GRANTS_BYTES)
         return kh_turn(memory, copy, rings_bytes, grants, grants_bytes, answer);
@@ -168,25 +168,25 @@ static uint32_t turn(uint64_t *memory, uint8_t *lent, size_t rings_bytes, const 
     if (port != PORTS && waits(port))
         take_slot(port);
     copy_for_trial(memory);
-    kh_turn(trial.memory, trial.rings, rings_bytes, grants, grants_bytes, answer);
-    if (answer[0] == ANSWERED)
+    kh_turn(&trial.memory, trial.rings, rings_bytes, grants, grants_bytes, answer);
+    if (answer[KH_TURN_KIND] == ANSWERED)
         take_rsp_event(port);
     uint32_t refusal = kh_turn(memory, copy, rings_bytes, grants, grants_bytes, answer);
     end_turn(port, answer);
     return refusal;
 }
 
-static uint32_t complete(uint64_t *memory, uint8_t *lent, size_t rings_bytes, uint32_t port, uint32_t tag,
+static uint32_t complete(kh_memory *memory, uint8_t *lent, size_t rings_bytes, uint32_t port, uint32_t tag,
                          uint32_t serial, int32_t result, uint64_t *answer) {
     live = lent;
     copy_for_trial(memory);
-    uint32_t refusal = kh_complete(trial.memory, trial.rings, rings_bytes, port, tag, serial, result, answer);
-    if (refusal != 0)
+    uint32_t refusal = kh_complete(&trial.memory, trial.rings, rings_bytes, port, tag, serial, result, answer);
+    if (refusal != KH_OK)
         return refusal;
     take_rsp_event(port);
     kh_complete(memory, copy, rings_bytes, port, tag, serial, result, answer);
     give_response(port);
-    return 0;
+    return KH_OK;
 }
 
 const struct backend *backend_named(const char *name) {

@@ -1,5 +1,5 @@
-pub mod Promise
-pub mod Replies
+pub mod States
+pub mod OpenClose
 pub mod Completions
-pub mod Turns
-pub mod Demand3
+pub mod Every
+pub mod Runs

@@ -1,3 +1,2 @@
-pub mod Promise
-pub mod Complete
+pub mod Steps
 pub mod Run

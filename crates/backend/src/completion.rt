@@ -1,26 +1,28 @@
 // Completing a started request.
-use crate::IS_CLOSED;
-use crate::NO_PORT;
-use crate::NO_REQUEST;
-use crate::RINGS;
-use crate::WRONG_LENGTH;
-use crate::attach::is_closed;
 use memory::WORDS;
 use model::Completed;
 use model::Pair;
 use model::Port;
 use model::PortId;
 use model::Serial;
+use model::State;
 use model::Tag;
 use model::TagId;
-use service::next_index;
+use model::buffer::PORTS;
+use model::buffer::RINGS;
+use model::layout::ring_size;
+use model::refusal::IS_CLOSED;
+use model::refusal::NO_PORT;
+use model::refusal::NOT_BUSY;
+use model::refusal::WRONG_LENGTH;
 ghost use mathlib.Core.Path.{_≡_};
 ghost use lib.ListN.{length};
 ghost use Rattle.model.specs.Buffers.{ringsLength};
 ghost use Rattle.model.specs.Calls.{Complete};
 ghost use Rattle.model.specs.Port.{zeroTag};
-ghost use Rattle.backend.specs.Promise.{Promised};
-ghost use Rattle.backend.specs.Complete.{Holds, Released, Finished};
+ghost use Rattle.memory.specs.Backend.{backendOf};
+ghost use Rattle.memory.specs.Promise.{Promised};
+ghost use Rattle.backend.specs.Steps.{TagHeld, Released, TagFinished, PortNamed};
 
 // A free tag keeps only zeros.
 fn free_tag() -> Tag
@@ -38,13 +40,12 @@ fn free_tag() -> Tag
 
 // Tag t of port k is free again, and R rises by one.
 fn release(memory: &mut [u64; WORDS], k: usize, t: u32, p: Port)
-    requires { ⌜ Holds (now memory) k t p ⌝ }
+    requires { ⌜ TagHeld (backendOf (now memory)) k t p ⌝ }
     ensures { λ _. ⌜ Released (now (memory .entry)) k t (now (memory .exit)) ⌝ }
 {
-    memory::known(memory);
     memory::set_tag(memory, k, t as usize, free_tag());
-    memory::set_produced(memory, k, next_index(p.produced));
-    memory::set_busy_marks(memory, k, memory::clear_mark(p.busy, t));
+    memory::set_produced(memory, k, ring::next_index(p.produced));
+    memory::set_busy_marks(memory, k, marks::clear_mark(p.busy, t));
 }
 
 // Answers the request that tag x was started with, and releases the tag. Reads bytes 12 to 15 of the port's page, once.
@@ -57,15 +58,47 @@ fn finish(
     x: Tag,
     result: i32,
 ) -> Completed
-    requires { ⌜ Holds (now memory) k t p × (length (now rings) ≡ ringsLength) ⌝ }
-    ensures { λ r. ⌜ Finished (now (memory .entry)) (now (rings .entry)) k t x result (now (rings .exit)) r (now (memory .exit)) ⌝ }
+    requires { ⌜ TagHeld (backendOf (now memory)) k t p × (length (now rings) ≡ ringsLength) ⌝ }
+    ensures { λ r. ⌜ TagFinished (now (memory .entry)) (now (rings .entry)) k t x result (now (rings .exit)) r (now (memory .exit)) ⌝ }
 {
     let status = ring::status_of(x.expected, result);
     let pair = x.pair;
     let params = p.params;
+    let abi = params.abi;
     release(memory, k, t, p);
-    let notify = ring::respond(rings, k, params, p.produced, pair, status);
+    let notify = ring::respond(rings, k, abi, p.produced, pair, status);
     Completed::Done(PortId(k as u32), status, notify)
+}
+
+// Completes a request of a port that is open or broken: the one that the tag and serial name. Reads the page only as `finish` does.
+fn complete_named(
+    memory: &mut [u64; WORDS],
+    rings: &mut [u8],
+    port: PortId,
+    tag: TagId,
+    serial: Serial,
+    result: i32,
+) -> Completed
+    requires { ⌜ PortNamed (backendOf (now memory)) (now rings) port ⌝ }
+    ensures { λ r. ⌜ Promised (now (memory .entry)) (Complete (now (rings .entry)) port tag serial result) (record { rings = now (rings .exit); answer = r }) (now (memory .exit)) ⌝ }
+{
+    let k = port.0 as usize;
+    let t = tag.0;
+    let p = memory::port_at(memory, k);
+    let params = p.params;
+    let abi = params.abi;
+    if ring_size(abi) <= t {
+        return Completed::Refused(NOT_BUSY);
+    }
+    if !marks::is_busy(p.busy, t) {
+        return Completed::Refused(NOT_BUSY);
+    }
+    let x = memory::tag_at(memory, k, t as usize);
+    let kept = x.serial;
+    if kept.0 != serial.0 {
+        return Completed::Refused(NOT_BUSY);
+    }
+    finish(memory, rings, k, t, p, x, result)
 }
 
 // Completes a started request with the host's result. Reads the page only as `finish` does.
@@ -83,26 +116,13 @@ pub fn complete(
         return Completed::Refused(WRONG_LENGTH);
     }
     let k = port.0 as usize;
-    if 7 < k {
+    if PORTS <= k {
         return Completed::Refused(NO_PORT);
     }
     let p = memory::port_at(memory, k);
     let state = p.state;
-    if is_closed(state) {
-        return Completed::Refused(IS_CLOSED);
+    match state {
+        State::Closed => Completed::Refused(IS_CLOSED),
+        State::Open | State::Broken => complete_named(memory, rings, port, tag, serial, result),
     }
-    let t = tag.0;
-    let params = p.params;
-    if ring::size(params) <= t {
-        return Completed::Refused(NO_REQUEST);
-    }
-    if !memory::is_busy(p.busy, t) {
-        return Completed::Refused(NO_REQUEST);
-    }
-    let x = memory::tag_at(memory, k, t as usize);
-    let kept = x.serial;
-    if kept.0 != serial.0 {
-        return Completed::Refused(NO_REQUEST);
-    }
-    finish(memory, rings, k, t, p, x, result)
 }

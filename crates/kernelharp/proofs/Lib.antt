@@ -1,4 +1,5 @@
 pub mod Words
-pub mod Refusals
+pub mod Numbers
 pub mod Returns
-pub mod Demand3
+pub mod Decode
+pub mod Runs

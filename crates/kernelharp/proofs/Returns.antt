@@ -1,45 +1,36 @@
--- What the backend promises of a call, as the C interface returns it. Assumes nothing.
+-- What the library promises of a call, as the C interface returns it. Assumes nothing.
 use mathlib.Core.Path.{_≡_, refl, sym, ap, subst, _∙_}
-use mathlib.Core.List.{List, [], _∷_, _++_}
-use Prim.Native.Nat.{ℕ, suc, _-_}
-use native.Mathlib.Omega.{arith}
-use borrow.Author.Tests.{ne-eqb}
+use mathlib.Core.List.{List}
+use Prim.Native.Nat.{ℕ}
 use lib.IntN.{ℤ}
-use lib.ListN.{length}
-use Rattle.model.specs.Answers.{turnedNumber, turnedWords, completedNumber, completedWords}
-use Rattle.model.specs.Calls.{Call, Effect, TurnEffect, CompleteEffect}
+use borrow.Author.Tests.{ne-eqb}
+use Rattle.wire.specs.Part.{setPart}
+use Rattle.wire.proofs.Part.{setPart-part}
+use Rattle.model.specs.Answers.{refusal, turnedNumber, turnedWords, completedNumber, completedWords, extentsAt, extentsLength, extentsIn}
+use Rattle.model.specs.Calls.{Call, TurnEffect, CompleteEffect, Effect}
+use Rattle.model.specs.Deeds.{deeds}
 use Rattle.model.specs.Rules.{effectDue}
 use Rattle.model.specs.declared.Completed.{Completed}
 use Rattle.model.specs.declared.Turned.{Turned}
-use Rattle.backend.specs.Promise.{refusal, Promised}
-use Rattle.kernelharp.specs.Promise.{Returned, extentsIn, turnAnswer, turnCall, TurnReturned, completeCall, CompleteReturned}
-use Rattle.kernelharp.specs.Steps.{turnedInto, Within, completedInto}
-use Rattle.kernelharp.proofs.Refusals.{Keeps, turn-keeps, NumberedIn, complete-numbered}
-use Rattle.kernelharp.proofs.Words.{back, middle, around-middle, unchanged}
+use Rattle.memory.specs.Promise.{Promised}
+use Rattle.turn.specs.Promise.{TurnPromised}
+use Rattle.kernelharp.specs.Promise.{Returned, turnAnswer, turnCall, TurnReturned, doneAnswer, completeCall, CompleteReturned}
+use Rattle.kernelharp.specs.Steps.{turnedInto, completedInto}
+use Rattle.kernelharp.proofs.Numbers.{TurnKeeps, turn-keeps, NumberedIn, complete-numbered}
 
 -- the number and the memory
 pub returned : (m : List ℕ) (c : Call) (e : Effect c) (left : List ℕ) (n : ℕ) → Promised m c e left → n ≡ refusal c e → Returned m c n left
 returned m c e left n p h = record {
   number = h ∙ ap (refusal c) (p .effect);
-  backend = p .backend;
-  refused = λ z. p .refused (n - 1) (sym h ∙ omega arith);
+  becomes = p .memory;
+  still = λ z. p .still (ap (deeds c) (p .effect) ∙ z);
 }
 
 -- ---- kh_turn
 
 module _ (m rings grants answer pages left : List ℕ) where
-  pub within : (r : Turned) (ys : List ℕ) → length answer ≡ 64 → length ys ≡ 44
-      → Promised m (turnCall rings grants answer) (record { rings = pages; words = ys; answer = r }) left
-      → Within m rings grants answer r pages (back answer ys) left
-  within r ys h l p = record {
-    promised =
-        subst (λ (z : List ℕ). Promised m (turnCall rings grants answer) (record { rings = pages; words = z; answer = r }) left)
-        (sym (middle answer ys h l)) p;
-    around = around-middle answer ys h l;
-  }
-
   -- a turn that was done
-  done : (r : Turned) (words : List ℕ) → Within m rings grants answer r pages words left → turnedNumber r ≡ 0
+  done : (r : Turned) (words : List ℕ) → TurnPromised m rings grants answer r pages words left → turnedNumber r ≡ 0
       → TurnReturned m rings grants answer 0 pages (turnAnswer (turnedWords r) (extentsIn words)) left
   done r words w z =
       let p = w .promised in
@@ -50,25 +41,25 @@ module _ (m rings grants answer pages left : List ℕ) where
       }
 
   -- any turn, by its answer
-  turn-by : (r : Turned) (words : List ℕ) → Within m rings grants answer r pages words left
+  turn-by : (r : Turned) (words : List ℕ) → TurnPromised m rings grants answer r pages words left
       → TurnReturned m rings grants answer (turnedNumber r) pages (turnedInto r words) left
   unfolding effectDue
   turn-by (Turned.Refused n) words w =
       let p = w .promised in
-      let k : Keeps (extentsIn answer) (record { rings = pages; words = extentsIn words; answer = Turned.Refused n }) =
-      subst (Keeps (extentsIn answer)) (sym (p .effect)) (turn-keeps _ rings grants (extentsIn answer))
+      let k : TurnKeeps (extentsIn answer) (record { rings = pages; words = extentsIn words; answer = Turned.Refused n }) =
+      subst (TurnKeeps (extentsIn answer)) (sym (p .effect)) (turn-keeps _ rings grants (extentsIn answer))
       in
       record {
         returned = returned m (turnCall rings grants answer) _ left n p refl;
         ringsDue = ap (λ (e : TurnEffect). e .rings) (p .effect);
-        answerDue = rw (k .1) (w .around ∙ rw (k .0) (unchanged answer));
+        answerDue = rw (k .1) (w .around ∙ ap (setPart extentsLength answer extentsAt) (k .0) ∙ setPart-part extentsLength answer extentsAt);
       }
   turn-by Turned.Idle words w = done Turned.Idle words w refl
   turn-by (Turned.Overrun p) words w = done (Turned.Overrun p) words w refl
   turn-by (Turned.Started p t s plan) words w = done (Turned.Started p t s plan) words w refl
   turn-by (Turned.Answered p n z y) words w = done (Turned.Answered p n z y) words w refl
 
-  pub turn-returned : (r : Turned) (words : List ℕ) (n : ℕ) (written : List ℕ) → Within m rings grants answer r pages words left
+  pub turn-returned : (r : Turned) (words : List ℕ) (n : ℕ) (written : List ℕ) → TurnPromised m rings grants answer r pages words left
       → (n ≡ turnedNumber r) × (written ≡ turnedInto r words) → TurnReturned m rings grants answer n pages written left
   turn-returned r words n written w h = rw (h .0, h .1) (turn-by r words w)
 
@@ -91,7 +82,7 @@ module _ (m rings : List ℕ) (port tag serial : ℕ) (result : ℤ) (answer pag
   complete-by (Completed.Done q z y) p = record {
     returned = returned m (completeCall rings port tag serial result) _ left 0 p refl;
     ringsDue = ap (λ (e : CompleteEffect). e .rings) (p .effect);
-    answerDue = ap (λ (e : CompleteEffect). completedWords (e .answer) ++ 0 ∷ []) (p .effect);
+    answerDue = ap (λ (e : CompleteEffect). doneAnswer (completedWords (e .answer))) (p .effect);
   }
 
   pub complete-returned : (r : Completed) (n : ℕ) (written : List ℕ)

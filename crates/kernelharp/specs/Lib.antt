@@ -1,3 +1,4 @@
 pub mod Promise
 pub mod Steps
+pub mod Decode
 pub mod Run

@@ -1,4 +1,6 @@
-pub mod Busy
-pub mod Words
-pub mod Abstract
+pub mod Lens
+pub mod Backend
+pub mod Kept
+pub mod Encoded
 pub mod Zeros
+pub mod Changes

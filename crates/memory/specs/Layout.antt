@@ -1,8 +1,8 @@
--- Where the words of backend memory stand: one field to a word, port after port, each port's own words before its tags', the pointer last.
+-- Where the words of backend memory stand (rule 14.1): one field to a word, port after port, each port's own words before its tags', the pointer last.
 use Prim.Native.Nat.{ℕ, _+_, _*_}
 use Rattle.model.specs.Buffers.{ports}
 
--- the words of a port beside its tags, of a tag, and the tags of a port ("A port has 32 tickets")
+-- the words of a port beside its tags, of a tag, and the tags of a port (rule 4.7)
 abbrev pub portWords : ℕ
 portWords = 12
 
@@ -25,5 +25,5 @@ abbrev pub memoryWords : ℕ
 memoryWords = pointerWord + 1
 
 -- where a tag's words begin among its port's
-abbrev pub tagFrom : ℕ → ℕ
-tagFrom t = portWords + tagWords * t
+abbrev pub tagPlace : ℕ → ℕ
+tagPlace t = portWords + tagWords * t

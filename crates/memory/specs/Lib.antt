@@ -1,3 +1,4 @@
 pub mod Layout
 pub mod Words
-pub mod Abstract
+pub mod Backend
+pub mod Promise

@@ -1,4 +1,4 @@
--- The words of backend memory read as ports, tags and the pointer, whatever they hold, and written. No rule of document 01 is stated here.
+-- The words of backend memory read as ports, tags and the pointer, whatever they hold (rule 14.3), and written.
 use Prim.Native.Nat.{ℕ, zero, suc, _+_, _*_, _%_, _^_}
 use mathlib.Core.Bool.{Bool, true, false, not}
 use mathlib.Core.List.{List, [], _∷_}
@@ -12,7 +12,7 @@ use Rattle.model.specs.declared.Port.{Port}
 use Rattle.model.specs.declared.SectorSize.{SectorSize}
 use Rattle.model.specs.declared.State.{State}
 use Rattle.model.specs.declared.Tag.{Tag}
-use Rattle.memory.specs.Layout.{stride, pointerWord, memoryWords, tagFrom}
+use Rattle.memory.specs.Layout.{stride, pointerWord, memoryWords, tagPlace}
 
 -- ---- single words
 
@@ -23,7 +23,7 @@ word m k q = getD m (stride * k + q) 0
 unfoldable pub setWord : List ℕ → ℕ → ℕ → ℕ → List ℕ
 setWord m k q v = set m (stride * k + q) v
 
--- a state: 0 closed, 1 open, anything else broken
+-- a state: 0 closed, 1 open, anything else broken (rule 14.3)
 abbrev pub stateOf : ℕ → State
 stateOf zero = State.Closed
 stateOf (suc zero) = State.Open
@@ -34,7 +34,7 @@ stateWord State.Closed = 0
 stateWord State.Open = 1
 stateWord State.Broken = 2
 
--- a flag: 0 is false, anything else true
+-- a flag: 0 is false, anything else true (rule 14.3)
 abbrev pub flagOf : ℕ → Bool
 flagOf x = not (eqb x 0)
 
@@ -42,7 +42,7 @@ abbrev pub flagWord : Bool → ℕ
 flagWord false = 0
 flagWord true = 1
 
--- a sector size: 512 times 2 to the word modulo 4
+-- a sector size: 512 times 2 to the word modulo 4 (rule 14.3)
 abbrev pub sectorCase : ℕ → SectorSize
 sectorCase zero = SectorSize.Bytes512
 sectorCase (suc zero) = SectorSize.Bytes1024
@@ -58,14 +58,14 @@ sectorWord SectorSize.Bytes1024 = 1
 sectorWord SectorSize.Bytes2048 = 2
 sectorWord SectorSize.Bytes4096 = 3
 
--- a layout: there is one, and its word is 0
+-- a layout: there is one, and its word is 0 (rule 14.3)
 abbrev pub abiOf : ℕ → Abi
 abiOf x = Abi.Bits64
 
 abbrev pub abiWord : Abi → ℕ
 abiWord Abi.Bits64 = 0
 
--- a number of 8 or 32 bits: modulo its width
+-- a number of 8 or 32 bits: modulo its width (rule 14.3)
 abbrev pub narrow8 : ℕ → ℕ
 narrow8 x = x % 2 ^ 8
 
@@ -135,24 +135,11 @@ portAt m k = portFrom (word m k)
 unfoldable pub setPort : List ℕ → ℕ → Port → List ℕ
 setPort m k p = sets m (stride * k) (wordsOf p)
 
--- a port with one field changed
-abbrev pub withState : Port → State → Port
-withState p s = record { state = s; params = p .params; consumed = p .consumed; produced = p .produced; busy = p .busy }
-
-abbrev pub withConsumed : Port → ℕ → Port
-withConsumed p v = record { state = p .state; params = p .params; consumed = v; produced = p .produced; busy = p .busy }
-
-abbrev pub withProduced : Port → ℕ → Port
-withProduced p v = record { state = p .state; params = p .params; consumed = p .consumed; produced = v; busy = p .busy }
-
-abbrev pub withBusy : Port → ℕ → Port
-withBusy p v = record { state = p .state; params = p .params; consumed = p .consumed; produced = p .produced; busy = v }
-
 -- ---- a tag
 
 -- a tag, by its words
-unfoldable pub tagOf : (ℕ → ℕ) → Tag
-tagOf w = record {
+unfoldable pub tagFrom : (ℕ → ℕ) → Tag
+tagFrom w = record {
   pair = record { id = w 0; operation = narrow8 (w 1) };
   serial = record { 0 = narrow32 (w 2) };
   expected = narrow32 (w 3);
@@ -164,12 +151,12 @@ tagWordsOf x = x .pair .id ∷ x .pair .operation ∷ x .serial .0 ∷ x .expect
 
 -- tag t of port k
 unfoldable pub tagAt : List ℕ → ℕ → ℕ → Tag
-tagAt m k t = tagOf (λ q. word m k (tagFrom t + q))
+tagAt m k t = tagFrom (λ q. word m k (tagPlace t + q))
 
 unfoldable pub setTag : List ℕ → ℕ → ℕ → Tag → List ℕ
-setTag m k t x = sets m (stride * k + tagFrom t) (tagWordsOf x)
+setTag m k t x = sets m (stride * k + tagPlace t) (tagWordsOf x)
 
--- ---- the pointer: modulo the number of ports
+-- ---- the pointer: modulo the number of ports (rule 14.3)
 
 unfoldable pub pointerAt : List ℕ → ℕ
 pointerAt m = getD m pointerWord 0 % ports
@@ -177,7 +164,7 @@ pointerAt m = getD m pointerWord 0 % ports
 unfoldable pub setPointer : List ℕ → ℕ → List ℕ
 setPointer m k = set m pointerWord k
 
--- ---- all zeros
+-- ---- all zeros: the empty backend (rule 14.2)
 
 unfoldable pub zeros : List ℕ
 zeros = replicate memoryWords 0

@@ -2,7 +2,7 @@
 use mathlib.Core.Path.{_≡_, refl, sym, ap, _∙_, subst}
 use mathlib.Core.Logic.{_≢_}
 use mathlib.Core.Bool.{Bool, true, false, not, cond, _&&_, _||_, true≢false}
-use Prim.Native.Nat.{ℕ, zero, suc, _+_, _≤_, _<_, zero-le, suc-le-suc}
+use Prim.Native.Nat.{ℕ, zero, suc, _+_, _≤_, _<_, suc-le-suc}
 use native.Mathlib.Decide.{decLt}
 use native.Mathlib.Nat.{not-suc-le-zero, le-of-suc-le-suc, le-refl, add-zero, add-suc}
 use native.Mathlib.Omega.{arith}
@@ -35,12 +35,11 @@ pub or-right : (a b : Bool) → a || b ≡ false → b ≡ false
 or-right true b e = clash refl e
 or-right false b e = e
 
--- ---- the least index that passes
+pub and-false : (b : Bool) → b && false ≡ false
+and-false true = refl
+and-false false = refl
 
-pub least-le : (n : ℕ) (f : ℕ → Bool) → least n f ≤ n
-unfolding least
-least-le zero f = le-refl 0
-least-le (suc n) f = by-cond (λ m. m ≤ suc n) (f zero) _ _ (λ _. zero-le) (λ _. suc-le-suc (least-le n _))
+-- ---- the least index that passes
 
 -- it passes
 pub least-is : (n : ℕ) (f : ℕ → Bool) → least n f < n → f (least n f) ≡ true
@@ -72,14 +71,6 @@ least-found n f i l e b = go (decLt i (least n f)) (decLt (least n f) i)
     go (yes c) d = clash e (least-before n f i c)
     go (no c) (yes d) = clash (least-is n f (omega arith)) (b (least n f) d)
     go (no c) (no d) = omega arith
-
--- where none passes it is n
-pub least-none : (n : ℕ) (f : ℕ → Bool) → ((j : ℕ) → j < n → f j ≡ false) → least n f ≡ n
-least-none n f b = go (decLt (least n f) n)
-  where
-    go : Dec (least n f < n) → least n f ≡ n
-    go (yes c) = clash (least-is n f c) (b (least n f) c)
-    go (no c) = omega (arith, least-le n f)
 
 -- looked for among more, it is the same
 pub least-more : (n m : ℕ) (f : ℕ → Bool) → n ≤ m → least n f < n → least m f ≡ least n f

@@ -22,6 +22,15 @@ odd m e = eqb-true (m % 2) 1 e
 even : (m : ℕ) → eqb (m % 2) 1 ≡ false → m % 2 ≡ 0
 even m e = let n : m % 2 ≢ 1 = eqb-false (m % 2) 1 e in omega arith
 
+-- a word without marks is 0
+pub no-marks : (n m : ℕ) → m ≤ n → ((t : ℕ) → isBusy m t ≡ false) → m ≡ 0
+unfolding isBusy
+no-marks zero m h f = omega arith
+no-marks (suc n) m h f =
+    let e : m % 2 ≡ 0 = even m (f 0) in
+    let z : m / 2 ≡ 0 = no-marks n (m / 2) (omega arith) (λ t. f (suc t)) in
+    omega arith
+
 -- ---- to set a mark, and to clear one
 
 pub busy-set : (t m : ℕ) → isBusy m t ≡ false → (u : ℕ) → isBusy (setBusy m t) u ≡ cond (eqb u t) true (isBusy m u)

@@ -1,4 +1,4 @@
--- The invariants that tie the backend's fields to the history. That every call keeps them stands in Told. Assumes nothing.
+-- The invariants that tie the backend's fields to the history. That every call keeps them stands in Refinement. Assumes nothing.
 use mathlib.Core.Path.{_≡_}
 use mathlib.Core.List.{List}
 use mathlib.Core.Bool.{not}
@@ -13,8 +13,9 @@ use Rattle.model.specs.History.{Book, book, holder, pointer, standing}
 use Rattle.model.specs.declared.Port.{Port}
 use Rattle.model.specs.declared.Tag.{Tag}
 
--- A port's fields and its tags, against books that stand: the params are the sheet's; C and R count the requests taken and the answers given, modulo 2^32; a
--- tag's mark is set exactly while its request is unfinished; and a tag keeps that request's pair, serial and expected result, or zeros.
+-- A port's fields and its tags, against books that stand (rule 12.27): the params are the sheet's; req_cons and rsp_prod_pvt count the requests taken and
+-- the answers given, modulo 2^32; a tag's mark is set exactly while its request is unfinished; and a tag keeps that request's pair, serial and expected
+-- result, or zeros.
 pub record Shape (p : Port) (tags : ℕ → Tag) (b : Book) : Type 0 where
   pub params : p .params ≡ b .params
   pub consumed : p .consumed ≡ length (b .taken) % modulus

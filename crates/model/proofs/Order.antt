@@ -1,4 +1,4 @@
--- "The same, repeats counted, in some order", by counts: lists of pairs in which every test passes as often are each other's reordering. Assumes nothing.
+-- Reorderings by counts: of two lists of pairs in which every pair stands as often, one is the other in some order. Assumes nothing.
 use mathlib.Core.Path.{_≡_, refl, sym, ap, _∙_, subst}
 use mathlib.Core.List.{List, [], _∷_, _++_}
 use mathlib.Core.Bool.{Bool, true, false, cond, _&&_}
@@ -53,9 +53,9 @@ isPair-self p = rw (eq-eqb (p .id) (p .id) refl, eq-eqb (p .operation) (p .opera
 -- ---- from counts to a reordering
 
 record Split (x : Pair) (ys : List Pair) : Type 0 where
-  before : List Pair
-  after : List Pair
-  is : ys ≡ before ++ x ∷ after
+  front : List Pair
+  back : List Pair
+  is : ys ≡ front ++ x ∷ back
 
 -- a pair that is counted stands somewhere
 split : (x : Pair) (ys : List Pair) → 0 < count (isPair x) ys → Split x ys
@@ -64,10 +64,10 @@ split x [] h = absurd (omega arith)
 split x (y ∷ ys) h = go (isPair x y) refl (λ e. split x ys e)
   where
     go : (b : Bool) → isPair x y ≡ b → (0 < count (isPair x) ys → Split x ys) → Split x (y ∷ ys)
-    go true e r = record { before = []; after = ys; is = ap {B = List Pair} (λ z. z ∷ ys) (sym (isPair-true x y e)) }
+    go true e r = record { front = []; back = ys; is = ap {B = List Pair} (λ z. z ∷ ys) (sym (isPair-true x y e)) }
     go false e r =
         let s = r (rw e at h) in
-        record { before = y ∷ s .before; after = s .after; is = ap {B = List Pair} (λ z. y ∷ z) (s .is) }
+        record { front = y ∷ s .front; back = s .back; is = ap {B = List Pair} (λ z. y ∷ z) (s .is) }
 
 -- a list in which nothing is counted is empty
 empty : (ys : List Pair) → ((q : Pair) → count (isPair q) ys ≡ 0) → ys ≡ []
@@ -79,8 +79,8 @@ reordered [] ys h = subst (λ (l : List Pair). Reordered [] l) (sym (empty ys (�
 reordered (x ∷ xs) ys h =
     let found : 0 < count (isPair x) ys = omega (arith, h x, count-cons (isPair x) x xs, ap one (isPair-self x)) in
     let s = split x ys found in
-    let rest : (q : Pair) → count (isPair q) xs ≡ count (isPair q) (s .before ++ s .after) =
+    let rest : (q : Pair) → count (isPair q) xs ≡ count (isPair q) (s .front ++ s .back) =
     λ q.
     let f = isPair q in
-    omega (arith, h q, ap (count f) (s .is), count-cons f x xs, count-append f (s .before) (x ∷ s .after), count-append f (s .before) (s .after), count-cons f x (s .after)) in
-    subst (λ (l : List Pair). Reordered (x ∷ xs) l) (sym (s .is)) (put-in (s .before) (s .after) (reordered xs (s .before ++ s .after) rest))
+    omega (arith, h q, ap (count f) (s .is), count-cons f x xs, count-append f (s .front) (x ∷ s .back), count-append f (s .front) (s .back), count-cons f x (s .back)) in
+    subst (λ (l : List Pair). Reordered (x ∷ xs) l) (sym (s .is)) (put-in (s .front) (s .back) (reordered xs (s .front ++ s .back) rest))

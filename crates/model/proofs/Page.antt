@@ -6,7 +6,7 @@ use native.Mathlib.Omega.{arith}
 use lib.ListN.{length, getD}
 use Rattle.wire.specs.LittleEndian.{load, store}
 use Rattle.wire.proofs.LittleEndian.{length-store, getD-store-outside, getD-store-inside, load-store-below, load-store-above, load-store-lt, load-lt}
-use Rattle.wire.proofs.Part.{length-part, length-setPart, part-setPart, bytes-part}
+use Rattle.wire.proofs.Part.{length-part, part-setPart, bytes-part}
 use Rattle.model.specs.Buffers.{ports, pageShare, ringsLength, pageOf, setPage}
 use Rattle.model.specs.Ring.{Layout, Ring, setRspProd, slotAt, slotOf, requestOf, setResponse, statusBits, responsePair, responseStatus}
 use Rattle.model.specs.Port.{after}
@@ -26,10 +26,6 @@ module _ (rings : List ℕ) (k : ℕ) (sized : length rings ≡ ringsLength) (sm
   pub pageOf-setPage : (page : List ℕ) → length page ≡ pageShare → pageOf (setPage rings k page) k ≡ page
   unfolding pageOf setPage
   pageOf-setPage page l = part-setPart pageShare rings (pageShare * k) page (omega arith) l
-
-  pub length-setPage : (page : List ℕ) → length page ≡ pageShare → length (setPage rings k page) ≡ length rings
-  unfolding setPage
-  length-setPage page l = length-setPart pageShare rings (pageShare * k) page (omega arith) l
 
 -- ---- requests
 

@@ -8,7 +8,7 @@ use native.Mathlib.Omega.{arith}
 use Rattle.wire.specs.Part.{part}
 use Rattle.model.specs.Base.{modulus}
 use Rattle.model.specs.Buffers.{pageShare}
-use Rattle.model.specs.Ring.{Ring, headerSize, layoutOf, ringOf, slotAt, slotOf}
+use Rattle.model.specs.Ring.{Ring, headerSize, slotBytes, segmentSize, responsePaddingAt, layoutOf, ringFor, ringOf, slotAt, slotOf}
 use Rattle.model.specs.Port.{busyBits}
 use Rattle.model.specs.Checks.{maxSegments}
 use Rattle.model.specs.declared.Abi.{Abi}
@@ -24,12 +24,13 @@ pub record Fits (g : Ring) : Type 0 where
   -- a request's fields and a response end within the slot
   pub idRoom : g .layout .idAt + 8 ≤ g .layout .slotSize
   pub startRoom : g .layout .startAt + 8 ≤ g .layout .slotSize
-  pub segmentRoom : g .layout .segmentsAt + 8 * maxSegments ≤ g .layout .slotSize
-  pub statusRoom : 12 ≤ g .layout .responseSize
+  pub segmentRoom : g .layout .segmentsAt + segmentSize * maxSegments ≤ g .layout .slotSize
+  pub statusRoom : responsePaddingAt ≤ g .layout .responseSize
   pub responseRoom : g .layout .responseSize ≤ g .layout .slotSize
 
-fits-abi : (a : Abi) → Fits (record { layout = layoutOf a; size = 32 })
-fits-abi Abi.Bits64 = record {
+pub fits-for : (a : Abi) → Fits (ringFor a)
+unfolding ringFor
+fits-for Abi.Bits64 = record {
   some = omega arith;
   whole = refl;
   marked = omega arith;
@@ -41,9 +42,21 @@ fits-abi Abi.Bits64 = record {
   responseRoom = omega arith;
 }
 
+-- the numbers as the code has them
+pub slot-place : (a : Abi) → slotBytes ≡ layoutOf a .slotSize
+slot-place Abi.Bits64 = refl
+
+pub id-place : (a : Abi) → 8 ≡ layoutOf a .idAt
+id-place Abi.Bits64 = refl
+
+pub start-place : (a : Abi) → 16 ≡ layoutOf a .startAt
+start-place Abi.Bits64 = refl
+
+pub segments-place : (a : Abi) → 24 ≡ layoutOf a .segmentsAt
+segments-place Abi.Bits64 = refl
+
 pub fits : (p : Params) → Fits (ringOf p)
-unfolding ringOf
-fits p = fits-abi (p .abi)
+fits p = fits-for (p .abi)
 
 module _ (g : Ring) (f : Fits g) where
   -- an index and its remainder modulo 2^32 have one slot

@@ -1,5 +1,4 @@
--- A history of calls on whole buffers, computed, with every kind of event: the definitions give the answers, the books, the turns and the bytes that document
--- 01 has for them.
+-- A history of calls on whole buffers, computed, with every kind of event: the answers, the books, the turns and the bytes that the definitions give.
 use mathlib.Core.Path.{_≡_, refl}
 use mathlib.Core.Bool.{Bool, true, false}
 use mathlib.Core.List.{List, [], _∷_, _++_}
@@ -11,23 +10,24 @@ use Rattle.wire.specs.LittleEndian.{load, store}
 use Rattle.wire.specs.Part.{part, setPart}
 use Rattle.model.specs.Base.{all, same, least, tally}
 use Rattle.model.specs.Buffers.{pageOf, setPage, grantsOf}
-use Rattle.model.specs.Ring.{reqProd, setReqEvent, setRspProd, rspEvent, ringOf, slotAt, slotOf, segmentOf, segmentsOf, requestOf, setResponse, responsePair}
-use Rattle.model.specs.NodeSheet.{entryAt, bodyLength, entriesFrom, entriesOf, bodiesEnd, wellFormed, rising, isDigit, digitsFrom, capped, digitsOf, numberOf, modeBody, featureBody, numberBody, isSectorSize, protocolBody, bodyOf, afterBody, afterBodies, valueOf, present, paramsOf, hasRequired, sheetOf}
+use Rattle.model.specs.Ring.{reqProd, setReqEvent, setRspProd, rspEvent, ringFor, slotAt, slotOf, segmentOf, segmentsOf, requestOf, setResponse, responsePair, responseStatus}
+use Rattle.model.specs.NodeSheet.{entryAt, bodyLength, entriesFrom, entriesOf, bodiesEnd, wellFormed, rising, isDigit, digitsFrom, capped, digitsOf, numberOf, choiceBody, numberBody, isSectorSize, isAllowed, protocolBody, bodyOf, afterBody, afterBodies, valueOf, absent, valuesOf, present, paramsOf, hasRequired, sheetOf}
 use Rattle.model.specs.Port.{isBusy, inFlightOf, lowestFree, distance, pendingOf}
-use Rattle.model.specs.Checks.{asksSecure, isEmptyBarrier, movesNothing, sectorsIn, totalSectors, countOf, isAligned, isGranted, unknownOperation, featureOff, secureOff, readOnly, wrongAmount, isWithinFrame, wrongSegment, notGranted, pastEnd, unaligned, checks}
+use Rattle.model.specs.Checks.{asksSecure, isEmptyBarrier, movesNothing, sectorsIn, totalSectors, countOf, isAligned, isGranted, unknownOperation, featureOff, secureOff, readOnly, wrongAmount, isWithinFrame, wrongSegment, notGranted, pastEnd, unaligned, operationChecks, segmentChecks, diskChecks, checks}
 use Rattle.model.specs.Plan.{extentsFrom, extentsOf, extentWords, wordsBeside, planOf, verdictOf}
 use Rattle.model.specs.Calls.{Call, Open, Close, Turn, Complete, Effect, Event}
 use Rattle.model.specs.Turn.{portId, tagId, serialOf, pendingAt, hasWork, passedOver, armed, idle, responded, respondedAt, notifies, requestAt, settled, overran, servedBy, turned}
 use Rattle.model.specs.Complete.{expectedOf, statusOf, completed}
 use Rattle.model.specs.Rules.{openedBy, dueOpen, dueClose, dueTurn, namesNone, refusedCompletion, dueComplete, effectDue}
 use Rattle.model.specs.Backend.{Backend, emptyBackend, viewOf, withPort, withTag, withPointer, does, next, afterCall}
-use Rattle.model.specs.History.{Book, asked, said as saidIn, answerTo, book, unfinished, pairsOf, hasToServe, Seen, turnsOf, historyFrom, history}
+use Rattle.model.specs.History.{Response, Book, asked, said as saidIn, answerTo, book, unfinished, pairsOf, hasToServe, Seen, turnsOf, historyFrom, history}
 use Rattle.model.specs.Answers.{turnedNumber, turnedWords, completedNumber, completedWords, replyNumber}
 use Rattle.model.specs.declared.Pair.{Pair}
+use Rattle.model.specs.declared.Status.{Status}
 
 -- ---- buffers
 
--- "Whole sheet for a writable disk of 2,008 sectors, 21 bytes"
+-- a sheet with the three nodes that must be there: writable, sectors of 512 bytes, 2008 of them
 abbrev sheet : List ℕ
 sheet = 0x03 ∷ 0x01 ∷ 0x00 ∷ 0x01 ∷ 0x00 ∷ 0x06 ∷ 0x00 ∷ 0x03 ∷ 0x00 ∷ 0x07 ∷ 0x00 ∷ 0x04 ∷ 0x00 ∷ 0x77 ∷ 0x35 ∷ 0x31 ∷ 0x32 ∷ 0x32 ∷ 0x30 ∷ 0x30 ∷ 0x38 ∷ []
 
@@ -58,9 +58,9 @@ both = rings (page 1 0 0 0x21 2000) (page 1 0 1 0x31 2000)
 unknown : List ℕ
 unknown = rings (page 2 1 9 0x22 0) (page 1 0 1 0x31 2000)
 
--- port 3's req_prod says too much
+-- port 2 has another one waiting, and port 3's req_prod says too much
 overfull : List ℕ
-overfull = rings (page 2 1 9 0x22 0) (page 50 0 0 0 0)
+overfull = rings (page 3 2 9 0x24 0) (page 50 0 0 0 0)
 
 -- port 2, opened once more, has a request waiting
 again : List ℕ
@@ -105,7 +105,7 @@ earlier =
 
 later : List Call
 later =
-    -- an overrun of port 3, which is then served no more
+    -- an overrun of port 3, where the idle turn left the pointer; it is then served no more
     Turn overfull grants words
     ∷ Turn overfull grants words
     -- port 2 is closed and opened; its tag and serial come again, and a late completion counts as the new request's own
@@ -138,10 +138,10 @@ inOrder : List Event → List Said → List Said
 inOrder [] l = l
 inOrder (e ∷ h) l = inOrder h (saidBy (e .call) (e .effect) ∷ l)
 
--- and of a port's books: the pairs taken, answered and unfinished
+-- and of a port's books: the pairs taken, the answers, and the pairs unfinished
 record Lines : Type 0 where
   taken : List Pair
-  answered : List Pair
+  answered : List Response
   left : List Pair
 
 abbrev linesOf : Book → Lines
@@ -149,6 +149,9 @@ linesOf b = record { taken = pairsOf (b .taken); answered = b .answered; left = 
 
 abbrev pair : ℕ → ℕ → Pair
 pair id operation = record { id = id; operation = operation }
+
+abbrev response : ℕ → ℕ → ℕ → Status → Response
+response id operation status told = record { pair = pair id operation; status = status; told = told }
 
 abbrev turnSeen : Bool → Option ℕ → Seen
 turnSeen w j = record { wanted = w; chosen = j }
@@ -205,7 +208,7 @@ computed :
           ∷ done (2 ∷ 0 ∷ 1 ∷ [])
           ∷ refused 6
           ∷ done (3 ∷ 3 ∷ replicate 10 0)
-          ∷ done (replicate 12 0)
+          ∷ done (2 ∷ 2 ∷ 0 ∷ 0 ∷ 0 ∷ 0 ∷ 0 ∷ 0 ∷ 0 ∷ 21 ∷ 2 ∷ 0 ∷ [])
           ∷ done []
           ∷ done []
           ∷ done (1 ∷ 2 ∷ 0 ∷ 0 ∷ 0 ∷ 2000 ∷ 8 ∷ 0 ∷ 1 ∷ 0 ∷ 0 ∷ 0 ∷ [])
@@ -214,12 +217,12 @@ computed :
           ∷ done []
           ∷ [];
       -- its read was answered after the unknown operation
-      before = record { taken = pair 0x22 9 ∷ pair 0x21 0 ∷ []; answered = pair 0x21 0 ∷ pair 0x22 9 ∷ []; left = [] };
+      before = record { taken = pair 0x22 9 ∷ pair 0x21 0 ∷ []; answered = response 0x21 0 0 Status.Okay ∷ response 0x22 9 0xfffe Status.NotSupported ∷ []; left = [] };
       waiting = record { taken = pair 0x31 1 ∷ []; answered = []; left = pair 0x31 1 ∷ [] };
-      reopened = record { taken = pair 0x23 0 ∷ []; answered = pair 0x23 0 ∷ []; left = [] };
+      reopened = record { taken = pair 0x23 0 ∷ []; answered = response 0x23 0 0xfffe Status.NotSupported ∷ []; left = [] };
       turns =
           turnSeen false (some 2)
-          ∷ turnSeen false none
+          ∷ turnSeen false (some 2)
           ∷ turnSeen true (some 3)
           ∷ turnSeen false none
           ∷ turnSeen false (some 2)
@@ -227,7 +230,7 @@ computed :
           ∷ turnSeen true (some 2)
           ∷ [];
     }
-unfolding page rings grants words load store part setPart all same least tally pageOf setPage grantsOf reqProd setReqEvent setRspProd rspEvent ringOf slotAt slotOf segmentOf segmentsOf requestOf setResponse entryAt bodyLength entriesFrom entriesOf bodiesEnd wellFormed rising isDigit digitsFrom capped digitsOf numberOf modeBody featureBody numberBody isSectorSize protocolBody bodyOf afterBody afterBodies valueOf present paramsOf hasRequired sheetOf isBusy inFlightOf lowestFree distance pendingOf asksSecure isEmptyBarrier movesNothing sectorsIn totalSectors countOf isAligned isGranted unknownOperation featureOff secureOff readOnly wrongAmount isWithinFrame wrongSegment notGranted pastEnd unaligned checks extentsFrom extentsOf extentWords wordsBeside planOf verdictOf pendingAt hasWork passedOver armed idle responded respondedAt notifies requestAt settled overran servedBy turned expectedOf statusOf completed openedBy dueOpen dueClose dueTurn namesNone refusedCompletion dueComplete effectDue viewOf withPort withTag withPointer does next both unknown overfull again earlier later inOrder historyFrom book answerTo unfinished asked saidIn responsePair turnsOf hasToServe
+unfolding page rings grants words load store part setPart all same least tally pageOf setPage grantsOf reqProd setReqEvent setRspProd rspEvent ringFor slotAt slotOf segmentOf segmentsOf requestOf setResponse entryAt bodyLength entriesFrom entriesOf bodiesEnd wellFormed rising isDigit digitsFrom capped digitsOf numberOf choiceBody numberBody isSectorSize isAllowed protocolBody bodyOf afterBody afterBodies valueOf absent valuesOf present paramsOf hasRequired sheetOf isBusy inFlightOf lowestFree distance pendingOf asksSecure isEmptyBarrier movesNothing sectorsIn totalSectors countOf isAligned isGranted unknownOperation featureOff secureOff readOnly wrongAmount isWithinFrame wrongSegment notGranted pastEnd unaligned operationChecks segmentChecks diskChecks checks extentsFrom extentsOf extentWords wordsBeside planOf verdictOf pendingAt hasWork passedOver armed idle responded respondedAt notifies requestAt settled overran servedBy turned expectedOf statusOf completed openedBy dueOpen dueClose dueTurn namesNone refusedCompletion dueComplete effectDue viewOf withPort withTag withPointer does next both unknown overfull again earlier later inOrder historyFrom book answerTo unfinished asked saidIn responsePair turnsOf hasToServe responseStatus
 computed = refl
 
 -- ---- bytes of the rings
@@ -250,7 +253,7 @@ wrote r at n = part n (turn r .rings) (4096 * 3 + at)
 -- ---- what is computed
 
 record Bytes : Type 0 where
-  -- "Refused with -1, operation 0, id 1122334455667788 hex"; the slot's other bytes stay, here the start sector, 2001
+  -- a refused read: id, operation, status -1 and padding; the slot's other bytes stay, here the start sector, 2001
   response : wrote (lent 1 2001) 64 24 ≡
       0x88 ∷ 0x77 ∷ 0x66 ∷ 0x55 ∷ 0x44 ∷ 0x33 ∷ 0x22 ∷ 0x11 ∷ 0x00 ∷ 0x00 ∷ 0xff ∷ 0xff ∷ 0x00 ∷ 0x00 ∷ 0x00 ∷ 0x00 ∷ 0xd1 ∷ 0x07 ∷ 0 ∷ 0 ∷ 0 ∷ 0 ∷ 0 ∷ 0 ∷ []
   -- req_prod, req_event, rsp_prod, rsp_event after a response, and after an idle turn
@@ -260,5 +263,5 @@ record Bytes : Type 0 where
   extents : turn (lent 1 2000) .words ≡ 5 ∷ 0 ∷ 8 ∷ 2000 ∷ replicate 40 0
 
 bytes : Bytes
-unfolding lent opened wrote page rings grants words load store part setPart all same least tally pageOf setPage grantsOf reqProd setReqEvent setRspProd rspEvent ringOf slotAt slotOf segmentOf segmentsOf requestOf setResponse entryAt bodyLength entriesFrom entriesOf bodiesEnd wellFormed rising isDigit digitsFrom capped digitsOf numberOf modeBody featureBody numberBody isSectorSize protocolBody bodyOf afterBody afterBodies valueOf present paramsOf hasRequired sheetOf isBusy inFlightOf lowestFree distance pendingOf asksSecure isEmptyBarrier movesNothing sectorsIn totalSectors countOf isAligned isGranted unknownOperation featureOff secureOff readOnly wrongAmount isWithinFrame wrongSegment notGranted pastEnd unaligned checks extentsFrom extentsOf extentWords wordsBeside planOf verdictOf pendingAt hasWork passedOver armed idle responded respondedAt notifies requestAt settled overran servedBy turned expectedOf statusOf completed openedBy dueOpen dueClose dueTurn namesNone refusedCompletion dueComplete effectDue viewOf withPort withTag withPointer does next
+unfolding lent opened wrote page rings grants words load store part setPart all same least tally pageOf setPage grantsOf reqProd setReqEvent setRspProd rspEvent ringFor slotAt slotOf segmentOf segmentsOf requestOf setResponse entryAt bodyLength entriesFrom entriesOf bodiesEnd wellFormed rising isDigit digitsFrom capped digitsOf numberOf choiceBody numberBody isSectorSize isAllowed protocolBody bodyOf afterBody afterBodies valueOf absent valuesOf present paramsOf hasRequired sheetOf isBusy inFlightOf lowestFree distance pendingOf asksSecure isEmptyBarrier movesNothing sectorsIn totalSectors countOf isAligned isGranted unknownOperation featureOff secureOff readOnly wrongAmount isWithinFrame wrongSegment notGranted pastEnd unaligned operationChecks segmentChecks diskChecks checks extentsFrom extentsOf extentWords wordsBeside planOf verdictOf pendingAt hasWork passedOver armed idle responded respondedAt notifies requestAt settled overran servedBy turned expectedOf statusOf completed openedBy dueOpen dueClose dueTurn namesNone refusedCompletion dueComplete effectDue viewOf withPort withTag withPointer does next
 bytes = record { response = refl; answeredHeader = refl; idleHeader = refl; extents = refl }

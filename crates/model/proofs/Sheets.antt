@@ -1,4 +1,4 @@
--- Node sheets on both sides of each refusal, computed.
+-- Node sheets on both sides of each refusal (rules 7.11 to 7.15), computed.
 use mathlib.Core.Path.{_≡_, refl}
 use mathlib.Core.Bool.{true, false}
 use mathlib.Core.List.{List, [], _∷_, _++_, map}
@@ -7,7 +7,7 @@ use lib.ListN.{length, replicate}
 use Rattle.wire.specs.LittleEndian.{load}
 use Rattle.wire.specs.Part.{part}
 use Rattle.model.specs.Base.{all, same}
-use Rattle.model.specs.NodeSheet.{Entry, entryAt, bodyLength, entriesFrom, entriesOf, bodiesEnd, wellFormed, rising, isDigit, digitsFrom, capped, digitsOf, numberOf, modeBody, featureBody, numberBody, isSectorSize, protocolBody, bodyOf, afterBody, afterBodies, valueOf, present, paramsOf, hasRequired, sheetOf}
+use Rattle.model.specs.NodeSheet.{Entry, entryAt, bodyLength, entriesFrom, entriesOf, bodiesEnd, wellFormed, rising, isDigit, digitsFrom, capped, digitsOf, numberOf, choiceBody, numberBody, isSectorSize, isAllowed, protocolBody, bodyOf, afterBody, afterBodies, valueOf, absent, valuesOf, present, paramsOf, hasRequired, sheetOf}
 use Rattle.model.specs.declared.Abi.{Abi}
 use Rattle.model.specs.declared.Params.{Params}
 use Rattle.model.specs.declared.SectorSize.{SectorSize}
@@ -52,23 +52,23 @@ judged n s = record { number = n; sheet = s }
 
 refused : List Judged
 refused =
-    -- "sheet empty"
+    -- no byte
     judged 11 []
-    -- "more than 9 entries"
+    -- ten entries
     ∷ judged 11 (10 ∷ replicate 40 0)
-    -- a table of contents that is cut short
+    -- a table of contents that is cut short (rule 3.13)
     ∷ judged 11 (3 ∷ 1 ∷ 0 ∷ [])
-    -- "non-zero reserved byte", before any 12
+    -- a reserved byte that is set, before any 12
     ∷ judged 11 (laid (size512 ∷ record { node = 1; reserved = 1; body = [] } ∷ []))
-    -- "wrong total length": a byte too many
+    -- a byte too many
     ∷ judged 11 (laid (writable ∷ size512 ∷ sectors2008 ∷ []) ++ (0 ∷ []))
     -- a byte too few
     ∷ judged 11 (1 ∷ 1 ∷ 0 ∷ 1 ∷ 0 ∷ [])
-    -- "node 0"
+    -- there is no node 0
     ∷ judged 12 (laid (node 0 [] ∷ writable ∷ size512 ∷ sectors2008 ∷ []))
-    -- "above 9"
+    -- nor a node 10
     ∷ judged 12 (laid (writable ∷ size512 ∷ sectors2008 ∷ node 10 [] ∷ []))
-    -- "or not rising": equal nodes, before a faulty body
+    -- equal nodes, before a faulty body
     ∷ judged 12 (laid (node 1 [] ∷ writable ∷ size512 ∷ sectors2008 ∷ []))
     -- falling nodes
     ∷ judged 12 (laid (size512 ∷ writable ∷ sectors2008 ∷ []))
@@ -118,11 +118,11 @@ disk sectors = record {
 
 record Computed : Type 0 where
   refusals : map (λ (j : Judged). sheetOf (j .sheet)) refused ≡ map (λ (j : Judged). Sheet.Refused (j .number)) refused
-  -- "Whole sheet for a writable disk of 2,008 sectors, 21 bytes"
+  -- the worked sheet (rule 3.12)
   whole :
       sheetOf (0x03 ∷ 0x01 ∷ 0x00 ∷ 0x01 ∷ 0x00 ∷ 0x06 ∷ 0x00 ∷ 0x03 ∷ 0x00 ∷ 0x07 ∷ 0x00 ∷ 0x04 ∷ 0x00 ∷ 0x77 ∷ 0x35 ∷ 0x31 ∷ 0x32 ∷ 0x32 ∷ 0x30 ∷ 0x30 ∷ 0x38 ∷ [])
       ≡ Sheet.Read (disk 2008)
-  -- "zero allowed"
+  -- a disk without sectors is one (rule 3.5)
   noSectors : sheetOf (laid (writable ∷ size512 ∷ node 7 (48 ∷ []) ∷ [])) ≡ Sheet.Read (disk 0)
   -- every node, with the largest number of sectors
   everyNode :
@@ -139,5 +139,5 @@ record Computed : Type 0 where
       })
 
 computed : Computed
-unfolding contents bodies laid refused load part all same entryAt bodyLength entriesFrom entriesOf bodiesEnd wellFormed rising isDigit digitsFrom capped digitsOf numberOf modeBody featureBody numberBody isSectorSize protocolBody bodyOf afterBody afterBodies valueOf present paramsOf hasRequired sheetOf
+unfolding contents bodies laid refused load part all same entryAt bodyLength entriesFrom entriesOf bodiesEnd wellFormed rising isDigit digitsFrom capped digitsOf numberOf choiceBody numberBody isSectorSize isAllowed protocolBody bodyOf afterBody afterBodies valueOf absent valuesOf present paramsOf hasRequired sheetOf
 computed = record { refusals = refl; whole = refl; noSectors = refl; everyNode = refl }

@@ -1,16 +1,18 @@
--- What an answer's enum means in document 01: its number and its values, for each case. Words are those of the C interface.
+-- What each case of an answer means, its number and its values (rule 11.4), as the words of the C interface (rules 14.5 to 14.8).
 use Prim.Native.Nat.{ℕ}
 use mathlib.Core.Bool.{Bool, cond}
 use mathlib.Core.List.{List, [], _∷_, _++_}
 use lib.IntN.{natAbs}
 use lib.ListN.{replicate}
+use Rattle.wire.specs.Part.{part}
 use Rattle.model.specs.Ring.{statusNumber}
+use Rattle.model.specs.Calls.{Call, Open, Close, Turn, Complete, Effect}
 use Rattle.model.specs.declared.Completed.{Completed}
 use Rattle.model.specs.declared.Reply.{Reply}
 use Rattle.model.specs.declared.Status.{Status}
 use Rattle.model.specs.declared.Turned.{Turned}
 
--- the number that a call is refused with; 0 where it is done
+-- the number that a call is refused with; 0 where it is done (rules 1.14 and 14.5)
 abbrev pub replyNumber : Reply → ℕ
 replyNumber (Reply.Refused n) = n
 replyNumber Reply.Done = 0
@@ -26,16 +28,22 @@ abbrev pub completedNumber : Completed → ℕ
 completedNumber (Completed.Refused n) = n
 completedNumber (Completed.Done p z y) = 0
 
--- a status by its magnitude: 1 for -1, 2 for -2
+-- and of any call
+abbrev pub refusal : (c : Call) → Effect c → ℕ
+refusal (Open p sheet) e = replyNumber e
+refusal (Close p) e = replyNumber e
+refusal (Turn rings grants words) e = turnedNumber (e .answer)
+refusal (Complete rings p t s result) e = completedNumber (e .answer)
+
+-- a status without its sign (rules 14.7 and 14.8)
 abbrev pub magnitude : Status → ℕ
 magnitude s = natAbs (statusNumber s)
 
 abbrev pub yesNo : Bool → ℕ
 yesNo b = cond b 1 0
 
--- The values of a turn's answer, a word each: kind (0 idle, 1 started, 2 answered, 3 overrun), port; tag, serial, operation, start, count, secure
--- mark, number of extents; reason, status, notify. "the answer is idle"; "the answer is port and overrun"; "The answer is the plan: port, ticket,
--- serial, kind, start, count, secure mark .., and n pieces"; "The answer has port, reason, status, notify." Of a refused call "the answer is the number alone".
+-- The values of a turn's answer, a word each, 0 where it has no use (rule 14.7): case (0 idle, 1 started, 2 answered, 3 overrun), port; tag, serial,
+-- operation, start, count, secure mark, number of extents; reason, status, notify. A refused call has no values (rule 1.14).
 abbrev pub turnedWords : Turned → List ℕ
 turnedWords (Turned.Refused n) = []
 turnedWords Turned.Idle = replicate 12 0
@@ -44,7 +52,17 @@ turnedWords (Turned.Started p t s plan) =
     1 ∷ p .0 ∷ t .0 ∷ s .0 ∷ plan .operation ∷ plan .start ∷ plan .count ∷ yesNo (plan .secure) ∷ plan .extents ∷ replicate 3 0
 turnedWords (Turned.Answered p n z y) = 2 ∷ p .0 ∷ replicate 7 0 ++ (n ∷ magnitude z ∷ yesNo y ∷ [])
 
--- "the answer is port, status, notify"
+-- the values of a completion's answer (rules 6.13 and 14.8)
 abbrev pub completedWords : Completed → List ℕ
 completedWords (Completed.Refused n) = []
 completedWords (Completed.Done p z y) = p .0 ∷ magnitude z ∷ yesNo y ∷ []
+
+-- where a turn's answer has the words of its extents, four to each of eleven places (rules 5.33 and 14.7)
+abbrev pub extentsAt : ℕ
+extentsAt = 16
+
+abbrev pub extentsLength : ℕ
+extentsLength = 44
+
+abbrev pub extentsIn : List ℕ → List ℕ
+extentsIn answer = part extentsLength answer extentsAt

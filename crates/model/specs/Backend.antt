@@ -1,4 +1,4 @@
--- The abstract backend: its ports with their tags, the pointer, its own view, and what an event does to it. Document 01, "A port and its turn".
+-- The abstract backend: its ports with their tags, the pointer, its own view, and what an event does to it.
 use Prim.Native.Nat.{ℕ}
 use mathlib.Core.Bool.{cond, _&&_}
 use mathlib.Core.List.{List, [], _∷_}
@@ -12,17 +12,17 @@ use Rattle.model.specs.declared.Port.{Port}
 use Rattle.model.specs.declared.State.{State}
 use Rattle.model.specs.declared.Tag.{Tag}
 
--- Each port by its number, and each tag by its port's and its own. No rule looks at a port above 7.
+-- A backend (desk): each port by its number, each tag by its port's and its own, and the pointer (rules 1.1, 4.7 and 5.1). No rule looks at a port above 7.
 pub record Backend : Type 0 where
   pub pointer : ℕ
   pub port : ℕ → Port
   pub tag : ℕ → ℕ → Tag
 
--- "an empty desk (eight closed ports, pointer 0)"
+-- what the first call of every list finds (rules 5.1 and 12.3)
 abbrev pub emptyBackend : Backend
 emptyBackend = record { pointer = 0; port = λ k. closedPort; tag = λ k t. zeroTag }
 
--- tag t of port k: held exactly when its mark is set
+-- tag t of port k: held exactly when its mark is set (rule 4.7)
 abbrev pub holderOf : Port → ℕ → Tag → Holder
 holderOf p t x = cond (isBusy (p .busy) t) (held x) free
 
@@ -52,11 +52,11 @@ withPointer b n = record { pointer = n; port = b .port; tag = b .tag }
 
 -- ---- what a deed does to its port
 
--- "the port becomes broken"
+-- after an overrun (rule 5.10)
 abbrev pub brokenPort : Port → Port
 brokenPort p = record { state = State.Broken; params = p .params; consumed = p .consumed; produced = p .produced; busy = p .busy }
 
--- "C rises by one (modulo 2^32)", and the tag's mark is set
+-- after a start: the request is taken (rule 5.17) and its tag busy (rule 4.7)
 abbrev pub startedPort : Port → ℕ → Port
 startedPort p t = record {
   state = p .state;
@@ -66,7 +66,7 @@ startedPort p t = record {
   busy = setBusy (p .busy) t;
 }
 
--- "C rises by one (modulo 2^32)", and, for the response at once, "R rises by one"
+-- after a response at once: the request is taken (rule 5.17) and answered (rules 6.3 and 8.1)
 abbrev pub answeredPort : Port → Port
 answeredPort p = record {
   state = p .state;
@@ -76,7 +76,7 @@ answeredPort p = record {
   busy = p .busy;
 }
 
--- "R rises by one"; "The ticket is freed"
+-- after a completion: a response was given (rule 6.3), and the tag is free (rule 6.12)
 abbrev pub finishedPort : Port → ℕ → Port
 finishedPort p t = record {
   state = p .state;
@@ -86,8 +86,8 @@ finishedPort p t = record {
   busy = clearBusy (p .busy) t;
 }
 
--- "Passed: a ticket with id, operation, serial (C before the rise) and expected result."
--- "A closed port and a free ticket keep only zeros."
+-- What a deed does to the backend. A tag keeps what the completion needs (rules 5.20 and 5.21); a port that is closed and a tag that is freed keep zeros
+-- (rules 4.5 and 4.6).
 unfoldable pub does : Backend → Deed → Backend
 does b (opening k p) = withPort b k (openPort p)
 does b (closing k) = withPort b k closedPort
@@ -101,11 +101,11 @@ abbrev pub doesAll : Backend → List Deed → Backend
 doesAll b [] = b
 doesAll b (d ∷ ds) = doesAll (does b d) ds
 
--- what an event does to the backend
+-- what an event does to the backend; the pointer goes by rules 5.4, 5.5 and 5.7
 unfoldable pub next : Backend → Event → Backend
 next b e = withPointer (doesAll b (deedsOf e)) (moved (roundOf e) (b .pointer))
 
--- the event of a call on the backend, and the backend after it
+-- the event of a call on the backend, and the backend after it, which the next call finds (rule 12.4)
 abbrev pub eventOn : Backend → Call → Event
 eventOn b c = due (viewOf b) c
 

@@ -13,7 +13,7 @@ pub record Rule (A : Type 0) : Type 0 where
 abbrev pub _⇒_ : {A : Type 0} → Bool → A → Rule A
 t ⇒ a = record { test = t; answer = a }
 
--- the answer of the first rule that holds, else the last argument
+-- the answer of the first rule that holds, else the last argument; of refusals, which stand in the order of their numbers, that is the lowest (rule 1.15)
 abbrev pub firstOf : {A : Type 0} → List (Rule A) → A → A
 firstOf [] a = a
 firstOf (r ∷ rs) a = cond (r .test) (r .answer) (firstOf rs a)
@@ -40,6 +40,6 @@ same [] (y ∷ ys) = false
 same (x ∷ xs) [] = false
 same (x ∷ xs) (y ∷ ys) = eqb x y && same xs ys
 
--- the indices of a ring count modulo 2^32
+-- the indices of a ring count modulo this (rule 4.14)
 abbrev pub modulus : ℕ
 modulus = 2 ^ 32

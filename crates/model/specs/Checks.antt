@@ -1,98 +1,99 @@
--- Document 01, "When the desk says no", the second table: the checks 21 to 29 of a guest's request, and the statuses of the reasons.
+-- Section 8 of docs/RULES.md: the checks 21 to 29 of a guest's request, with the status of each reason.
 use Prim.Native.Nat.{ℕ, _+_, _-_, _%_}
 use mathlib.Core.Bool.{Bool, not, cond, _&&_, _||_}
-use mathlib.Core.List.{List, [], _∷_}
+use mathlib.Core.List.{List, [], _∷_, _++_}
 use lib.Dec.{eqb, ltb, leb}
 use lib.ListN.{getD}
-use Rattle.model.specs.Base.{Rule, _⇒_, firstOf, all}
+use Rattle.model.specs.Base.{_⇒_, firstOf, all}
 use Rattle.model.specs.Buffers.{grantShare}
 use Rattle.model.specs.Ring.{Request, read, write, barrier, flush, discard}
+use Rattle.model.specs.declared.Checked.{Checked}
 use Rattle.model.specs.declared.Params.{Params}
 use Rattle.model.specs.declared.SectorSize.{SectorSize}
 use Rattle.model.specs.declared.Segment.{Segment}
 use Rattle.model.specs.declared.Status.{Status}
-use Rattle.model.specs.declared.Verdict.{Verdict}
 
 abbrev pub isA : ℕ → Request → Bool
 isA operation r = eqb (r .pair .operation) operation
 
--- 000: "BLKIF_MAX_SEGMENTS_PER_REQUEST 11"
+-- blkif.h's BLKIF_MAX_SEGMENTS_PER_REQUEST (rule 2.16)
 abbrev pub maxSegments : ℕ
 maxSegments = 11
 
--- 000: "BLKIF_DISCARD_SECURE (1<<0)"; "Other flag bits are ignored."
+-- blkif.h's BLKIF_DISCARD_SECURE, bit 0 of the flag; the others are not looked at (rules 2.9 and 5.23)
 unfoldable pub asksSecure : Request → Bool
 asksSecure r = isA discard r && eqb (r .flag % 2) 1
 
--- a barrier with n = 0
+-- a barrier with n = 0 (rule 5.24)
 unfoldable pub isEmptyBarrier : Request → Bool
 isEmptyBarrier r = isA barrier r && eqb (r .n) 0
 
--- "27 to 29 are skipped for flush and empty barriers"
+-- a request without sectors: there are no grants and no range to check (rule 8.7)
 unfoldable pub movesNothing : Request → Bool
 movesNothing r = isA flush r || isEmptyBarrier r
 
 -- ---- sectors
 
--- 000: "first_sect and last_sect .. are always expressed in 512-byte units": from first to last, both counted
+-- from first to last, both counted, 512 bytes to each (rules 2.7 and 2.15)
 unfoldable pub sectorsIn : Segment → ℕ
 sectorsIn s = s .last + 1 - s .first
 
+-- as a whole number, with no bound (rule 8.10)
 unfoldable pub totalSectors : List Segment → ℕ
 totalSectors [] = 0
 totalSectors (s ∷ ss) = sectorsIn s + totalSectors ss
 
--- the sectors that the request speaks of: its segments', or a discard's own count
+-- the sectors that the request speaks of (rules 5.25 and 8.9)
 unfoldable pub countOf : Request → ℕ
 countOf r = firstOf (isA discard r ⇒ r .sectors ∷ movesNothing r ⇒ 0 ∷ []) (totalSectors (r .segments))
 
--- "sector-size / 512"
+-- how many sectors of 512 bytes one of the disk's has (rule 8.29)
 abbrev pub unitOf : SectorSize → ℕ
 unitOf SectorSize.Bytes512 = 1
 unitOf SectorSize.Bytes1024 = 2
 unitOf SectorSize.Bytes2048 = 4
 unitOf SectorSize.Bytes4096 = 8
 
--- a multiple of sector-size / 512
+-- a multiple of that (rule 8.29)
 unfoldable pub isAligned : SectorSize → ℕ → Bool
 isAligned z x = eqb (x % unitOf z) 0
 
 -- ---- grants
 
--- "1 we may read it, 2 read and write, anything else nothing"
+-- what a grant byte allows (rule 8.4)
 abbrev pub mayRead : ℕ → Bool
 mayRead b = eqb b 1 || eqb b 2
 
 abbrev pub mayWrite : ℕ → Bool
 mayWrite b = eqb b 2
 
--- "A read needs 2, a write or barrier 1 or 2."
-abbrev pub suffices : Request → ℕ → Bool
-suffices r b = cond (isA read r) (mayWrite b) (mayRead b)
+-- a read has its frame written, so it needs more than the others; that there is a grant is not enough (rules 8.6 and 10.4)
+abbrev pub suffices : ℕ → ℕ → Bool
+suffices operation b = cond (eqb operation read) (mayWrite b) (mayRead b)
 
--- "Grant byte g of the port's 1,024 speaks of frame g"; "frames from 1,024 up aren't granted."
-unfoldable pub isGranted : List ℕ → Request → Segment → Bool
-isGranted grants r s = ltb (s .frame) grantShare && suffices r (getD grants (s .frame) 0)
+-- byte g of a port's grants speaks of frame g; no frame past the last byte is granted (rules 8.3 and 8.5)
+unfoldable pub isGranted : List ℕ → ℕ → Segment → Bool
+isGranted grants operation s = ltb (s .frame) grantShare && suffices operation (getD grants (s .frame) 0)
 
 -- ---- the nine checks: what each finds at fault
 
--- "21 unknown operation"
+-- 21: none of the five operations (rules 2.14 and 8.21)
 unfoldable pub unknownOperation : Request → Bool
 unknownOperation r = not (isA read r || isA write r || isA barrier r || isA flush r || isA discard r)
 
--- "22 barrier, flush or discard with its feature 0"
+-- 22: what the operation needs is off (rule 8.22)
 unfoldable pub featureOff : Params → Request → Bool
 featureOff p r = isA barrier r && not (p .barrier) || isA flush r && not (p .flush) || isA discard r && not (p .discard)
 
--- "23 discard, flag bit 0 set, discard-secure 0"
+-- 23: a secure discard, and those are off (rule 8.23)
 unfoldable pub secureOff : Params → Request → Bool
 secureOff p r = asksSecure r && not (p .secure)
 
--- "24 write, barrier or discard, mode r"
+-- 24: the disk would be written, and may not (rule 8.24)
 unfoldable pub readOnly : Params → Request → Bool
 readOnly p r = (isA write r || isA barrier r || isA discard r) && not (p .writable)
 
--- "25 read, write: n not 1..11; barrier: n above 11; flush: n not 0; discard of 0 sectors"
+-- 25: the number of segments, or of sectors to discard, is out of bounds (rule 8.25)
 unfoldable pub wrongAmount : Request → Bool
 wrongAmount r =
     (isA read r || isA write r) && not (leb 1 (r .n) && leb (r .n) maxSegments)
@@ -100,37 +101,66 @@ wrongAmount r =
     || isA flush r && not (eqb (r .n) 0)
     || isA discard r && eqb (r .sectors) 0
 
--- "26 a segment without first <= last <= 7"
+-- a segment lies in its frame, which has eight sectors (rule 8.26)
 unfoldable pub isWithinFrame : Segment → Bool
 isWithinFrame s = leb (s .first) (s .last) && leb (s .last) 7
 
--- "26 and 27 [are skipped] for discard"
+-- 26, of all segments; a discard has none (rules 8.8 and 8.26)
 unfoldable pub wrongSegment : Request → Bool
 wrongSegment r = not (isA discard r) && not (all isWithinFrame (r .segments))
 
--- "27 a frame not granted as needed"
+-- 27, of all segments (rules 8.7, 8.8 and 8.27)
 unfoldable pub notGranted : List ℕ → Request → Bool
-notGranted grants r = not (isA discard r || movesNothing r) && not (all (isGranted grants r) (r .segments))
+notGranted grants r = not (isA discard r || movesNothing r) && not (all (isGranted grants (r .pair .operation)) (r .segments))
 
--- "28 start + count above sectors, as whole numbers"; "Sectors are always 512 bytes, also in the "sectors" node"
-unfoldable pub pastEnd : Params → Request → Bool
-pastEnd p r = not (movesNothing r) && ltb (p .sectors) (r .start + countOf r)
+-- 28: the range ends past the disk. The sum is a whole number, and does not wrap (rules 8.10, 8.28 and 10.3).
+unfoldable pub pastEnd : Params → ℕ → ℕ → Bool
+pastEnd p start count = ltb (p .sectors) (start + count)
 
--- "29 start or total count no multiple of sector-size / 512"
-unfoldable pub unaligned : Params → Request → Bool
-unaligned p r = not (movesNothing r) && not (isAligned (p .sector) (r .start) && isAligned (p .sector) (countOf r))
+-- 29: the range does not keep to whole sectors of the disk (rule 8.29)
+unfoldable pub unaligned : Params → ℕ → ℕ → Bool
+unaligned p start count = not (isAligned (p .sector) start && isAligned (p .sector) count)
 
--- The table, a rule for each check: its number, and the status that the guest gets. "checks run in number order 21 to 29 (each over all segments before
--- the next)"
-unfoldable pub checks : Params → List ℕ → Request → List (Rule Verdict)
-checks p grants r =
-    unknownOperation r ⇒ Verdict.Refused 21 Status.NotSupported
-    ∷ featureOff p r ⇒ Verdict.Refused 22 Status.NotSupported
-    ∷ secureOff p r ⇒ Verdict.Refused 23 Status.NotSupported
-    ∷ readOnly p r ⇒ Verdict.Refused 24 Status.Error
-    ∷ wrongAmount r ⇒ Verdict.Refused 25 Status.Error
-    ∷ wrongSegment r ⇒ Verdict.Refused 26 Status.Error
-    ∷ notGranted grants r ⇒ Verdict.Refused 27 Status.Error
-    ∷ pastEnd p r ⇒ Verdict.Refused 28 Status.Error
-    ∷ unaligned p r ⇒ Verdict.Refused 29 Status.Error
+-- ---- the table of the checks
+
+-- a check: the number of its reason, the status that the guest gets, and whether the request fails it (rules 8.21 to 8.29)
+pub record Check : Type 0 where
+  pub reason : ℕ
+  pub status : Status
+  pub fails : Bool
+
+abbrev pub check : ℕ → Status → Bool → Check
+check n s b = record { reason = n; status = s; fails = b }
+
+-- what a request asks for (rules 8.21 to 8.25)
+unfoldable pub operationChecks : Params → Request → List Check
+operationChecks p r =
+    check 21 Status.NotSupported (unknownOperation r)
+    ∷ check 22 Status.NotSupported (featureOff p r)
+    ∷ check 23 Status.NotSupported (secureOff p r)
+    ∷ check 24 Status.Error (readOnly p r)
+    ∷ check 25 Status.Error (wrongAmount r)
     ∷ []
+
+-- its segments, each check over all of them (rules 8.2, 8.26 and 8.27)
+unfoldable pub segmentChecks : List ℕ → Request → List Check
+segmentChecks grants r =
+    check 26 Status.Error (wrongSegment r)
+    ∷ check 27 Status.Error (notGranted grants r)
+    ∷ []
+
+-- its range on the disk (rules 8.9, 8.28 and 8.29)
+unfoldable pub diskChecks : Params → ℕ → ℕ → List Check
+diskChecks p start count =
+    check 28 Status.Error (pastEnd p start count)
+    ∷ check 29 Status.Error (unaligned p start count)
+    ∷ []
+
+-- the nine checks, in number order (rule 8.2); a request that moves nothing has no range (rule 8.7)
+unfoldable pub checks : Params → List ℕ → Request → List Check
+checks p grants r = operationChecks p r ++ (segmentChecks grants r ++ cond (movesNothing r) [] (diskChecks p (r .start) (countOf r)))
+
+-- the first check of a list that the request fails (rule 8.2)
+abbrev pub firstFailed : List Check → Checked
+firstFailed [] = Checked.Passed
+firstFailed (c ∷ cs) = cond (c .fails) (Checked.Refused (c .reason) (c .status)) (firstFailed cs)

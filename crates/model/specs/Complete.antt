@@ -1,4 +1,4 @@
--- Document 01, "A port and its turn": completing a started request.
+-- Section 6 of docs/RULES.md, completions.
 use Prim.Native.Nat.{ℕ}
 use mathlib.Core.Bool.{cond, _||_}
 use mathlib.Core.List.{List}
@@ -13,16 +13,17 @@ use Rattle.model.specs.declared.Plan.{Plan}
 use Rattle.model.specs.declared.Status.{Status}
 use Rattle.model.specs.declared.Tag.{Tag}
 
--- "Expected: the count for read, write, barrier; 0 for flush, discard."
+-- the result that is expected of a plan (rule 6.9)
 unfoldable pub expectedOf : Plan → ℕ
 expectedOf plan = cond (eqb (plan .operation) flush || eqb (plan .operation) discard) 0 (plan .count)
 
--- "Equal to expected: status 0. Otherwise -95: status -2. Anything else, short counts too: -1." `negsuc 94` is -95; an expected result is never negative.
+-- the status that a result comes to (rule 6.10); `negsuc 94` is -95, and no result expected is negative
 unfoldable pub statusOf : ℕ → ℤ → Status
 statusOf expected (pos n) = cond (eqb n expected) Status.Okay Status.Error
 statusOf expected (negsuc n) = cond (eqb n 94) Status.NotSupported Status.Error
 
--- "the answer is port, status, notify": the response carries the tag's id and operation. A broken port's "completions still work".
+-- A completion that is not refused: the response has the id and operation that the tag keeps (rules 6.11, 6.13 and 6.15). A broken port's is like any other
+-- (rule 5.13).
 unfoldable pub completed : View → List ℕ → ℕ → Tag → ℤ → CompleteEffect
 completed v rings k x result =
     let s = statusOf (x .expected) result in

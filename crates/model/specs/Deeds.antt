@@ -1,4 +1,5 @@
--- What an event does, deed by deed, in the order done. Each deed is one port's: what becomes of the port, and what the history books of it, goes by deeds.
+-- What an event does, deed by deed, in the order done. A deed belongs to one port. What becomes of that port, and what the history books of it, both go by
+-- deeds, so a call that does more than one thing is a list of deeds and nothing else changes.
 use Prim.Native.Nat.{ℕ, _+_, _%_}
 use mathlib.Core.List.{List, [], _∷_}
 use Rattle.model.specs.Buffers.{ports}
@@ -13,8 +14,8 @@ use Rattle.model.specs.declared.Sheet.{Sheet}
 use Rattle.model.specs.declared.Status.{Status}
 use Rattle.model.specs.declared.Turned.{Turned}
 
--- A port was opened, closed or broken; a request was taken and started, or taken and answered; a started one was answered. `lent` and `left` are the
--- rings that the call was lent and left.
+-- A port was opened, closed or broken; a request was taken and started, or taken and answered; a started one was answered (rules 12.9 to 12.14). `lent` is
+-- the rings as the call found them, `left` as it left them, `status` what its answer told.
 pub data Deed : Type 0 where
   opening : (port : ℕ) (params : Params) → Deed
   closing : (port : ℕ) → Deed
@@ -23,7 +24,7 @@ pub data Deed : Type 0 where
   answering : (port : ℕ) (lent left : List ℕ) (status : Status) → Deed
   finishing : (port : ℕ) (left : List ℕ) (tag serial : ℕ) (status : Status) → Deed
 
--- the port whose deed it is
+-- whose deed it is
 abbrev pub portOf : Deed → ℕ
 portOf (opening k p) = k
 portOf (closing k) = k
@@ -32,19 +33,22 @@ portOf (starting k lent t s x) = k
 portOf (answering k lent left z) = k
 portOf (finishing k left t s z) = k
 
--- what a sheet that opened a port says
+-- the params that an opened port takes from its sheet (rule 4.2)
 abbrev pub paramsIn : Sheet → Params
 paramsIn (Sheet.Read p) = p
 paramsIn (Sheet.Refused n) = zeroParams
 
+-- An open that is done opens its port (rules 12.7 and 12.9).
 abbrev pub openDeeds : ℕ → List ℕ → Reply → List Deed
 openDeeds k sheet (Reply.Refused n) = []
 openDeeds k sheet Reply.Done = opening k (paramsIn (sheetOf sheet)) ∷ []
 
+-- A close that is done closes its port (rules 12.7 and 12.9).
 abbrev pub closeDeeds : ℕ → Reply → List Deed
 closeDeeds k (Reply.Refused n) = []
 closeDeeds k Reply.Done = closing k ∷ []
 
+-- A turn does one thing to the port in its answer (rules 12.9 to 12.13); a refused or idle one does nothing (rules 12.7 and 12.8).
 abbrev pub turnDeeds : List ℕ → List ℕ → Turned → List Deed
 turnDeeds lent left (Turned.Refused n) = []
 turnDeeds lent left Turned.Idle = []
@@ -52,25 +56,29 @@ turnDeeds lent left (Turned.Overrun p) = breaking (p .0) ∷ []
 turnDeeds lent left (Turned.Started p t s plan) = starting (p .0) lent (t .0) (s .0) (expectedOf plan) ∷ []
 turnDeeds lent left (Turned.Answered p n z y) = answering (p .0) lent left z ∷ []
 
-abbrev pub completeDeeds : List ℕ → ℕ → ℕ → Completed → List Deed
-completeDeeds left t s (Completed.Refused n) = []
-completeDeeds left t s (Completed.Done p z y) = finishing (p .0) left t s z ∷ []
+-- A completion that is done finishes what the call named: port k, tag t, serial s (rules 12.7 and 12.14). Of its answer only the status is booked.
+abbrev pub completeDeeds : List ℕ → ℕ → ℕ → ℕ → Completed → List Deed
+completeDeeds left k t s (Completed.Refused n) = []
+completeDeeds left k t s (Completed.Done p z y) = finishing k left t s z ∷ []
 
+-- the deeds of a call with this effect
 abbrev pub deeds : (c : Call) → Effect c → List Deed
 deeds (Open p sheet) e = openDeeds (p .0) sheet e
 deeds (Close p) e = closeDeeds (p .0) e
 deeds (Turn rings grants words) e = turnDeeds rings (e .rings) (e .answer)
-deeds (Complete rings p t s x) e = completeDeeds (e .rings) (t .0) (s .0) (e .answer)
+deeds (Complete rings p t s x) e = completeDeeds (e .rings) (p .0) (t .0) (s .0) (e .answer)
 
+-- and of an event
 abbrev pub deedsOf : Event → List Deed
 deedsOf e = deeds (e .call) (e .effect)
 
--- Was it a turn, and whom did it serve? A refused turn is none.
+-- An event as a turn: which port it served, or that none had work (rules 12.8 and 12.10). Other calls and refused turns are no turn (rule 12.18).
 pub data Round : Type 0 where
   noTurn : Round
   unserved : (lent : List ℕ) → Round
   served : (lent : List ℕ) (port : ℕ) → Round
 
+-- a turn, by its answer
 abbrev pub turnRound : List ℕ → Turned → Round
 turnRound lent (Turned.Refused n) = noTurn
 turnRound lent Turned.Idle = unserved lent
@@ -78,20 +86,22 @@ turnRound lent (Turned.Overrun p) = served lent (p .0)
 turnRound lent (Turned.Started p t s plan) = served lent (p .0)
 turnRound lent (Turned.Answered p n z y) = served lent (p .0)
 
+-- a call with this effect
 abbrev pub round : (c : Call) → Effect c → Round
 round (Open p sheet) e = noTurn
 round (Close p) e = noTurn
 round (Turn rings grants words) e = turnRound rings (e .answer)
 round (Complete rings p t s x) e = noTurn
 
+-- and an event
 abbrev pub roundOf : Event → Round
 roundOf e = round (e .call) (e .effect)
 
--- the port after port k, "wrapping after 7"
+-- the port after port k; the first follows the last (rule 5.4)
 abbrev pub portAfter : ℕ → ℕ
 portAfter k = (k + 1) % ports
 
--- "The pointer becomes the port after it. Opens, closes and completions never move it."
+-- where the pointer stands next: past the port that was served, and otherwise where it stood (rules 5.4, 5.5 and 5.7)
 abbrev pub moved : Round → ℕ → ℕ
 moved noTurn pointer = pointer
 moved (unserved lent) pointer = pointer

@@ -1,4 +1,4 @@
--- Document 01, "Both sides of each line": the starred sentences, case by case, as one list of tests that the checker computes.
+-- Section 9 of docs/RULES.md: the worked cases with a star, as one list of tests that the checker computes (rule 9.1).
 use Prim.Native.Nat.{ℕ, zero, suc, _+_, _*_}
 use mathlib.Core.Bool.{Bool, true, false}
 use mathlib.Core.List.{List, [], _∷_}
@@ -17,7 +17,7 @@ use Rattle.model.specs.declared.SectorSize.{SectorSize}
 use Rattle.model.specs.declared.Status.{Status}
 use Rattle.model.specs.declared.Verdict.{Verdict}
 
--- "Mode w, 512-byte sectors, 2,008 of them, unless said."
+-- a disk with every feature; `usual` is that of section 9
 abbrev disk : Bool → SectorSize → ℕ → Params
 disk writable size sectors = record {
   writable = writable;
@@ -71,48 +71,52 @@ overruns Pending.Nothing = false
 overruns Pending.Waits = false
 overruns Pending.Overrun = true
 
--- what req_prod says where C = R = 5, and so no tag is busy
+-- what req_prod says where both indices are 5, and so no tag is busy (rules 9.17 and 9.18)
 abbrev at5 : ℕ → Pending
 at5 reqProd = pendingOf (ringOf usual .size) (inFlightOf 0) (distance reqProd 5)
 
--- "Expected 8": the status of a result
+-- what a result comes to where 8 is expected (rules 9.22 to 9.24)
 abbrev comesTo : ℤ → Status → Bool
 comesTo result status = eqb (statusBits (statusOf 8 result)) (statusBits status)
 
 unfoldable pub starred : List Bool
 starred =
-    -- "Read, frame 5, sectors 0..7, start 2000, grant 2: starts, count 8."
+    -- rule 9.2: a read that ends where the disk does
     starts 8 (judge usual (grant 2) (slot read 1 2000 0 7))
-    -- "With 2,007 sectors: 28."
+    -- rule 9.3: the disk is a sector shorter
     ∷ refused 28 (judge (disk true SectorSize.Bytes512 2007) (grant 2) (slot read 1 2000 0 7))
-    -- "Grant 1: 27."
+    -- rule 9.4: the frame may not be written
     ∷ refused 27 (judge usual (grant 1) (slot read 1 2000 0 7))
-    -- "As a write, grant 1: starts."
+    -- rule 9.5: for a write it need not be
     ∷ starts 8 (judge usual (grant 1) (slot write 1 2000 0 7))
-    -- "n = 12: 25."
+    -- rule 9.6: a segment too many
     ∷ refused 25 (judge usual (grant 2) (slot read 12 2000 0 7))
-    -- "Read with n = 0: 25; barrier with n = 0, feature 1: starts."
+    -- rule 9.8: no segment
     ∷ refused 25 (judge usual (grant 2) (slot read 0 2000 0 7))
+    -- rule 9.9: a barrier needs none
     ∷ starts 0 (judge usual (grant 2) (slot barrier 0 2000 0 7))
-    -- "First 3, last 2: 26."
+    -- rule 9.10: a segment that ends before it begins
     ∷ refused 26 (judge usual (grant 2) (slot read 1 2000 3 2))
-    -- "Last 8: 26."
+    -- rule 9.11: one that ends past its frame
     ∷ refused 26 (judge usual (grant 2) (slot read 1 2000 0 8))
-    -- "Size 4096, start 8, count 8: passes 29."
+    -- rule 9.14: a whole sector of 4,096 bytes
     ∷ starts 8 (judge (disk true SectorSize.Bytes4096 2008) (grant 2) (slot read 1 8 0 7))
-    -- "Start 4: 29."
+    -- rule 9.15: its start is half a sector off
     ∷ refused 29 (judge (disk true SectorSize.Bytes4096 2008) (grant 2) (slot read 1 4 0 7))
-    -- "Write, mode r, n = 12: 24."
+    -- rule 9.16: 24 comes before 25
     ∷ refused 24 (judge (disk false SectorSize.Bytes512 2008) (grant 2) (slot write 12 2000 0 7))
-    -- "C = R = 5: req_prod 37 waits, 38 and 4 overrun."
+    -- rule 9.17: a full ring
     ∷ waits (at5 37)
+    -- rule 9.18: one more than that, and an index that moved back
     ∷ overruns (at5 38)
     ∷ overruns (at5 4)
-    -- "Expected 8: 8 gives 0; 7, 0, -5 and -2147483648 give -1; -95 gives -2."
+    -- rule 9.22
     ∷ comesTo (pos 8) Status.Okay
+    -- rule 9.23
     ∷ comesTo (pos 7) Status.Error
     ∷ comesTo (pos 0) Status.Error
     ∷ comesTo (negsuc 4) Status.Error
     ∷ comesTo (negsuc 2147483647) Status.Error
+    -- rule 9.24
     ∷ comesTo (negsuc 94) Status.NotSupported
     ∷ []

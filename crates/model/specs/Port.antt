@@ -1,4 +1,4 @@
--- Document 01, "A port and its turn": a port's state, its tags (the paper's tickets), and what req_prod says.
+-- Section 4 of docs/RULES.md: a port's state, its tags, and what its req_prod says; and the view that all rules look at.
 use Prim.Native.Nat.{ℕ, zero, suc, _+_, _-_, _/_, _%_, _^_}
 use mathlib.Core.Bool.{Bool, true, false}
 use mathlib.Core.List.{[], _∷_}
@@ -12,7 +12,7 @@ use Rattle.model.specs.declared.SectorSize.{SectorSize}
 use Rattle.model.specs.declared.State.{State}
 use Rattle.model.specs.declared.Tag.{Tag}
 
--- "A port is closed, open or broken."
+-- which of the three states it is (rule 4.1)
 abbrev pub isClosed : State → Bool
 isClosed State.Closed = true
 isClosed State.Open = false
@@ -23,7 +23,7 @@ isOpen State.Closed = false
 isOpen State.Open = true
 isOpen State.Broken = false
 
--- "A closed port and a free ticket keep only zeros."
+-- What a closed port keeps, and a free tag: in each field what a word of 0 says there (rules 4.5, 4.6 and 14.3).
 abbrev pub zeroParams : Params
 zeroParams = record {
   writable = false;
@@ -42,15 +42,15 @@ closedPort = record { state = State.Closed; params = zeroParams; consumed = 0; p
 abbrev pub zeroTag : Tag
 zeroTag = record { pair = record { id = 0; operation = 0 }; serial = record { 0 = 0 }; expected = 0 }
 
--- "Opening sets both private indices, taken (C) and answered (R), to 0, with all tickets free"
+-- a port as opening leaves it (rules 4.2 and 4.3)
 abbrev pub openPort : Params → Port
 openPort p = record { state = State.Open; params = p; consumed = 0; produced = 0; busy = 0 }
 
--- "A port has 32 tickets, marked busy in one word of marks.": a word of 64 bits, of which a ring uses as many as it has slots
+-- The tags are marked in one word, busy (marks). It has so many bits, of which a ring uses as many as it has slots (rules 4.7 and 14.4).
 abbrev pub busyBits : ℕ
 busyBits = 64
 
--- mark t of the word m
+-- mark t of the word m (rule 4.7)
 unfoldable pub isBusy : ℕ → ℕ → Bool
 isBusy m zero = eqb (m % 2) 1
 isBusy m (suc t) = isBusy (m / 2) t
@@ -63,11 +63,11 @@ setBusy m t = m + 2 ^ t
 abbrev pub clearBusy : ℕ → ℕ → ℕ
 clearBusy m t = m - 2 ^ t
 
--- "In flight is the number of set marks; it equals C - R modulo 2^32.": the first is the definition, the second is proved of every history
+-- In flight, by the marks (rule 4.8). That this is req_cons - rsp_prod_pvt modulo 2^32 is proved, of every history (rule 4.9).
 unfoldable pub inFlightOf : ℕ → ℕ
 inFlightOf m = tally busyBits (isBusy m)
 
--- A tag as the rules see it: free, or held by a started request.
+-- A tag as the rules see it: free, or held by a started request (rule 4.7).
 pub data Holder : Type 0 where
   free : Holder
   held : Tag → Holder
@@ -76,24 +76,24 @@ abbrev pub isFree : Holder → Bool
 isFree free = true
 isFree (held x) = false
 
--- "A start uses the lowest ticket number whose mark is clear": of a ring's tags, by number
+-- the tag that a start gets, of as many as the ring has slots (rule 4.10)
 unfoldable pub lowestFree : ℕ → (ℕ → Holder) → ℕ
 lowestFree size tags = least size (λ t. isFree (tags t))
 
--- "Let d = req_prod - C modulo 2^32."
+-- how far req_prod is ahead of req_cons (rule 4.11)
 unfoldable pub distance : ℕ → ℕ → ℕ
 distance reqProd consumed = (reqProd + (modulus - consumed)) % modulus
 
--- "d = 0: nothing. 1 <= d <= 32 - in flight: a request waits. Larger: overrun.": for a ring of a size
+-- what a distance d says, in a ring of this size (rule 4.12)
 unfoldable pub pendingOf : ℕ → ℕ → ℕ → Pending
 pendingOf size inFlight d = firstOf (eqb d 0 ⇒ Pending.Nothing ∷ leb d (size - inFlight) ⇒ Pending.Waits ∷ []) Pending.Overrun
 
--- the index after i, modulo 2^32
+-- the index after i (rule 4.14)
 abbrev pub after : ℕ → ℕ
 after i = (i + 1) % modulus
 
--- What the rules look at: each port's state, params, C, R, in flight and tags, and the pointer. The backend shows one view of itself; the history
--- of its calls shows another.
+-- What the rules look at: each port's state, params, req_cons, rsp_prod_pvt, number in flight and tags, and the pointer. The backend shows one view of
+-- itself; the history of its calls shows another (rule 12.27).
 pub record View : Type 0 where
   pub state : ℕ → State
   pub params : ℕ → Params
@@ -103,7 +103,7 @@ pub record View : Type 0 where
   pub tag : ℕ → ℕ → Holder
   pub pointer : ℕ
 
--- "a waiting request or an overrun"
+-- there is something to serve (rule 4.13)
 abbrev pub isWork : Pending → Bool
 isWork Pending.Nothing = false
 isWork Pending.Waits = true

@@ -1,5 +1,5 @@
--- Document 01, "Ring page and records": the header, the slots, a request read from a slot, a response written to one.
--- "all little-endian": numbers are read and written by `load` and `store`.
+-- Section 2 of docs/RULES.md: the header of a ring page, its slots, a request read from a slot, a response written to one. Numbers are little-endian
+-- (rule 2.1), by `load` and `store`.
 use Prim.Native.Nat.{ℕ, zero, suc, _+_, _-_, _*_, _%_}
 use mathlib.Core.List.{List, [], _∷_}
 use lib.ListN.{getD}
@@ -14,24 +14,40 @@ use Rattle.model.specs.declared.Pair.{Pair}
 use Rattle.model.specs.declared.Segment.{Segment}
 use Rattle.model.specs.declared.Status.{Status}
 
--- "Header, 64 bytes: req_prod at 0, req_event at 4, rsp_prod at 8, rsp_event at 12, each 32 bits."
+-- the bytes of the header, and where its four fields stand (rule 2.2)
 abbrev pub headerSize : ℕ
 headerSize = 64
 
+abbrev pub reqProdAt : ℕ
+reqProdAt = 0
+
+abbrev pub reqEventAt : ℕ
+reqEventAt = 4
+
+abbrev pub rspProdAt : ℕ
+rspProdAt = 8
+
+abbrev pub rspEventAt : ℕ
+rspEventAt = 12
+
 unfoldable pub reqProd : List ℕ → ℕ
-reqProd page = load 4 page 0
+reqProd page = load 4 page reqProdAt
 
 unfoldable pub setReqEvent : List ℕ → ℕ → List ℕ
-setReqEvent page v = store 4 page 4 v
+setReqEvent page v = store 4 page reqEventAt v
 
 unfoldable pub setRspProd : List ℕ → ℕ → List ℕ
-setRspProd page v = store 4 page 8 v
+setRspProd page v = store 4 page rspProdAt v
 
 unfoldable pub rspEvent : List ℕ → ℕ
-rspEvent page = load 4 page 12
+rspEvent page = load 4 page rspEventAt
+
+-- the bytes of the largest slot, that of the 64-bit layout (rule 2.3)
+abbrev pub slotBytes : ℕ
+slotBytes = 112
 
 -- The numbers of a record layout: the bytes of a slot, where a request keeps its id, its start sector and its segments (a discard its sector count), and
--- the bytes of a response.
+-- the bytes of a response (rules 2.3, 2.5, 2.8 and 2.10).
 pub record Layout : Type 0 where
   pub slotSize : ℕ
   pub idAt : ℕ
@@ -39,42 +55,63 @@ pub record Layout : Type 0 where
   pub segmentsAt : ℕ
   pub responseSize : ℕ
 
--- "slots of 112 bytes"; "id (64 bits) at 8, start sector (64 bits) at 16, segments of 8 bytes from 24"; "Response, 16 bytes"
+-- the 64-bit layout (rule 1.16)
 abbrev pub layoutOf : Abi → Layout
-layoutOf Abi.Bits64 = record { slotSize = 112; idAt = 8; startAt = 16; segmentsAt = 24; responseSize = 16 }
+layoutOf Abi.Bits64 = record { slotSize = slotBytes; idAt = 8; startAt = 16; segmentsAt = 24; responseSize = 16 }
 
--- A port's ring: its layout, and how many slots it has.
+-- A port's ring: its layout, and how many slots it has (rule 2.3).
 pub record Ring : Type 0 where
   pub layout : Layout
   pub size : ℕ
 
--- "Then 32 slots": one page
-unfoldable pub ringOf : Params → Ring
-ringOf p = record { layout = layoutOf (p .abi); size = 32 }
+-- the ring of a layout, in one page (rules 1.16 and 2.3)
+unfoldable pub ringFor : Abi → Ring
+ringFor a = record { layout = layoutOf a; size = 32 }
 
--- "index i lives in slot i mod 32, at 64 + 112 x (i mod 32)"
+-- the ring that a node sheet asks for (rule 3.5)
+abbrev pub ringOf : Params → Ring
+ringOf p = ringFor (p .abi)
+
+-- where in its page the slot of index i begins (rule 2.4)
 unfoldable pub slotAt : Ring → ℕ → ℕ
 slotAt g i = headerSize + g .layout .slotSize * (i % g .size)
 
--- the bytes of the slot of index i
+-- the bytes of the slot of index i (rules 2.3 and 2.4)
 unfoldable pub slotOf : Ring → List ℕ → ℕ → List ℕ
 slotOf g page i = part (g .layout .slotSize) page (slotAt g i)
 
--- "segments of 8 bytes from 24: frame reference (32 bits), first sector, last sector, two ignored bytes"
+-- the bytes of a segment, and where its first and last sector stand in it (rule 2.6)
+abbrev pub segmentSize : ℕ
+segmentSize = 8
+
+abbrev pub segmentFirstAt : ℕ
+segmentFirstAt = 4
+
+abbrev pub segmentLastAt : ℕ
+segmentLastAt = 5
+
+-- segment i of a slot (rule 2.6)
 unfoldable pub segmentOf : Layout → List ℕ → ℕ → Segment
 segmentOf l slot i = record {
-  frame = load 4 slot (l .segmentsAt + 8 * i);
-  first = getD slot (l .segmentsAt + 8 * i + 4) 0;
-  last = getD slot (l .segmentsAt + 8 * i + 5) 0;
+  frame = load 4 slot (l .segmentsAt + segmentSize * i);
+  first = getD slot (l .segmentsAt + segmentSize * i + segmentFirstAt) 0;
+  last = getD slot (l .segmentsAt + segmentSize * i + segmentLastAt) 0;
 }
 
--- n segments, from number i on
+-- n segments, from number i on (rule 2.5)
 unfoldable pub segmentsOf : ℕ → Layout → List ℕ → ℕ → List Segment
 segmentsOf zero l slot i = []
 segmentsOf (suc n) l slot i = segmentOf l slot i ∷ segmentsOf n l slot (suc i)
 
--- A request as its slot's bytes say it. Byte 1 and the bytes from `segmentsAt` are read both ways, as a segment count with its segments and as a discard's
--- flag with its sector count: the operation says which reading counts.
+-- where a request of any layout keeps its operation, and its segment count or flag (rules 2.5 and 2.8)
+abbrev pub requestOperationAt : ℕ
+requestOperationAt = 0
+
+abbrev pub requestCountAt : ℕ
+requestCountAt = 1
+
+-- A request as its slot's bytes say it (rules 2.5 and 2.8). Byte 1 and the bytes from `segmentsAt` are read both ways, as a segment count with its
+-- segments and as a discard's flag with its sector count: the operation says which reading counts.
 pub record Request : Type 0 where
   pub pair : Pair
   pub n : ℕ
@@ -83,44 +120,55 @@ pub record Request : Type 0 where
   pub segments : List Segment
   pub sectors : ℕ
 
--- "Request: operation at 0, segment count n at 1, handle at 2 (ignored), id (64 bits) at 8, start sector (64 bits) at 16, segments of 8 bytes from 24"
--- "Discard: flag at 1, id at 8, start at 16, sector count (64 bits) at 24."
+-- the request in a slot; its handle is not looked at (rules 2.5 and 2.8)
 unfoldable pub requestOf : Layout → List ℕ → Request
 requestOf l slot = record {
-  pair = record { id = load 8 slot (l .idAt); operation = getD slot 0 0 };
-  n = getD slot 1 0;
-  flag = getD slot 1 0;
+  pair = record { id = load 8 slot (l .idAt); operation = getD slot requestOperationAt 0 };
+  n = getD slot requestCountAt 0;
+  flag = getD slot requestCountAt 0;
   start = load 8 slot (l .startAt);
-  segments = segmentsOf (getD slot 1 0) l slot 0;
+  segments = segmentsOf (getD slot requestCountAt 0) l slot 0;
   sectors = load 8 slot (l .segmentsAt);
 }
 
--- "Status 0 okay, -1 error (FF FF), -2 not supported (FE FF)." `negsuc n` is -(n + 1).
+-- a status as a number (rule 2.12); `negsuc n` is -(n + 1)
 abbrev pub statusNumber : Status → ℤ
 statusNumber Status.Okay = pos 0
 statusNumber Status.Error = negsuc 0
 statusNumber Status.NotSupported = negsuc 1
 
--- the 16 bits of the status
+-- the 16 bits that a response has for it (rules 2.10 and 2.12)
 abbrev pub statusBits : Status → ℕ
 statusBits s = ofZ w16 (statusNumber s)
 
--- "Response, 16 bytes: id at 0, operation at 8, zero at 9, signed 16-bit status at 10, zeros at 12 to 15." "The slot's other 96 bytes stay."
+-- where a response of any layout, which begins with its id, keeps its operation and its status, and where its padding starts (rule 2.10)
+abbrev pub responseOperationAt : ℕ
+responseOperationAt = 8
+
+abbrev pub responseStatusAt : ℕ
+responseStatusAt = 10
+
+abbrev pub responsePaddingAt : ℕ
+responsePaddingAt = 12
+
+-- the page with a response at a place: every byte of it is written, padding too (rules 2.10 and 10.5), and none behind it in the slot (rule 2.11)
 unfoldable pub setResponse : Layout → List ℕ → ℕ → Pair → Status → List ℕ
 setResponse l page at q s =
-    store (l .responseSize - 12)
-    (store 2 (store 1 (store 1 (store 8 page at (q .id)) (at + 8) (q .operation)) (at + 9) 0) (at + 10) (statusBits s))
-    (at + 12) 0
+    store (l .responseSize - responsePaddingAt)
+    (store 2
+    (store 1 (store 1 (store 8 page at (q .id)) (at + responseOperationAt) (q .operation)) (at + (responseOperationAt + 1)) 0)
+    (at + responseStatusAt) (statusBits s))
+    (at + responsePaddingAt) 0
 
--- A response reads back under the header: the id and operation that one at a place of the page carries,
+-- A response as a guest reads it (rule 6.2): the id and operation of the one at a place of the page,
 unfoldable pub responsePair : List ℕ → ℕ → Pair
-responsePair page at = record { id = load 8 page at; operation = getD page (at + 8) 0 }
+responsePair page at = record { id = load 8 page at; operation = getD page (at + responseOperationAt) 0 }
 
 -- and the 16 bits of its status
 unfoldable pub responseStatus : List ℕ → ℕ → ℕ
-responseStatus page at = load 2 page (at + 10)
+responseStatus page at = load 2 page (at + responseStatusAt)
 
--- "Operations: 0 read, 1 write, 2 barrier, 3 flush, 5 discard. All others are unknown, 4 included."
+-- the operations that are known (rule 2.13)
 abbrev pub read : ℕ
 read = 0
 

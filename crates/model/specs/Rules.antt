@@ -1,5 +1,5 @@
--- Document 01, "When the desk says no", the first table, over a view: `due` is the whole event of a call, its answer and every byte that it leaves.
--- "Lower number first, save the sheet order above." "(state and all lent bytes stay; the answer is the number alone)"
+-- Section 7 of docs/RULES.md, over a view: `due` is the whole event of a call, its answer and every byte that it leaves. Of the refusals that apply the
+-- lowest is given (rule 1.15), and a refused call changes no byte (rules 1.13 and 1.14).
 use Prim.Native.Nat.{ℕ}
 use mathlib.Core.Bool.{Bool, true, not, _&&_, _||_}
 use mathlib.Core.List.{List, [], _∷_}
@@ -22,16 +22,16 @@ use Rattle.model.specs.declared.Tag.{Tag}
 use Rattle.model.specs.declared.TagId.{TagId}
 use Rattle.model.specs.declared.Turned.{Turned}
 
--- "2 port above 7"
+-- no port has this number (rule 7.2)
 abbrev pub noPort : PortId → Bool
 noPort p = leb ports (p .0)
 
--- a sheet that is read opens the port; "11" to "15" otherwise
+-- a sheet that can be read opens the port; another has its own refusal (rules 7.11 to 7.15)
 unfoldable pub openedBy : Sheet → Reply
 openedBy (Sheet.Read p) = Reply.Done
 openedBy (Sheet.Refused n) = Reply.Refused n
 
--- open: "2 port above 7", "3 port not closed", then the sheet's own order, 11 to 15
+-- open: 2 and 3, then those of the sheet (rules 7.2, 7.3 and 7.11 to 7.15)
 unfoldable pub dueOpen : View → PortId → List ℕ → Reply
 dueOpen v p sheet =
     firstOf
@@ -40,7 +40,7 @@ dueOpen v p sheet =
     ∷ [])
     (openedBy (sheetOf sheet))
 
--- close: "2 port above 7", "4 port closed", "5 requests in flight"; a broken port "can be closed"
+-- close (rules 7.2, 7.4 and 7.5); a broken port can be closed (rule 5.14)
 unfoldable pub dueClose : View → PortId → Reply
 dueClose v p =
     firstOf
@@ -50,7 +50,7 @@ dueClose v p =
     ∷ [])
     Reply.Done
 
--- turn: "1 a lent buffer has the wrong length"
+-- turn (rule 7.1)
 unfoldable pub dueTurn : View → List ℕ → List ℕ → List ℕ → TurnEffect
 dueTurn v rings grants words =
     firstOf
@@ -58,21 +58,21 @@ dueTurn v rings grants words =
     ∷ [])
     (turned v rings grants)
 
--- "6 ticket above 31, not busy, or another serial". "A stale completion whose ticket and serial name a newer busy request (port reopened, or 2^32 requests
--- later) counts as that request's own.": nothing but tag and serial is asked.
+-- Tag and serial name no busy request (rule 7.6). Nothing else is asked, so a late (stale) completion that names a newer one is that one's own (rule 6.14).
 unfoldable pub namesNone : Ring → TagId → Serial → Holder → Bool
 namesNone g t s free = true
 namesNone g t s (held x) = leb (g .size) (t .0) || not (eqb (x .serial .0) (s .0))
 
--- what a held tag keeps
+-- what a held tag keeps (rule 5.20)
 abbrev pub tagOf : Holder → Tag
 tagOf free = zeroTag
 tagOf (held x) = x
 
+-- a completion that is refused (rules 1.13 and 1.14)
 unfoldable pub refusedCompletion : List ℕ → ℕ → CompleteEffect
 refusedCompletion rings n = record { rings = rings; answer = Completed.Refused n }
 
--- complete: "1 a lent buffer has the wrong length", "2 port above 7", "4 port closed", "6 ticket above 31, not busy, or another serial"
+-- complete (rules 7.1, 7.2, 7.4 and 7.6)
 unfoldable pub dueComplete : View → List ℕ → PortId → TagId → Serial → ℤ → CompleteEffect
 dueComplete v rings p t s result =
     let h = v .tag (p .0) (t .0) in
@@ -84,12 +84,13 @@ dueComplete v rings p t s result =
     ∷ [])
     (completed v rings (p .0) (tagOf h) result)
 
+-- what each call leaves and answers, whatever it is handed (rules 1.11, 1.12 and 11.1)
 unfoldable pub effectDue : View → (c : Call) → Effect c
 effectDue v (Open p sheet) = dueOpen v p sheet
 effectDue v (Close p) = dueClose v p
 effectDue v (Turn rings grants words) = dueTurn v rings grants words
 effectDue v (Complete rings p t s result) = dueComplete v rings p t s result
 
--- the event of a call
+-- the event of a call (rule 11.1)
 abbrev pub due : View → Call → Event
 due v c = record { call = c; effect = effectDue v c }

@@ -1,5 +1,5 @@
--- Document 01, "A port and its turn": which port a turn serves, what it answers and leaves in the rings, and how a response is given. What becomes of the port
--- and the pointer stands in Deeds and Backend.
+-- Sections 5 and 6 of docs/RULES.md: which port a turn serves, what it answers and leaves in the rings, and how a response is given. What becomes of the
+-- port and the pointer stands in Deeds and Backend.
 use Prim.Native.Nat.{ℕ, zero, suc, _+_, _%_}
 use mathlib.Core.Bool.{Bool, cond, _&&_}
 use mathlib.Core.List.{List}
@@ -33,61 +33,62 @@ serialOf s = record { 0 = s }
 abbrev pub ringAt : View → ℕ → Ring
 ringAt v k = ringOf (v .params k)
 
--- what port k's req_prod says
+-- what port k's req_prod says (rules 4.11 and 4.12)
 unfoldable pub pendingAt : View → List ℕ → ℕ → Pending
 pendingAt v rings k = pendingOf (ringAt v k .size) (v .inFlight k) (distance (reqProd (pageOf rings k)) (v .consumed k))
 
--- ""Something to serve" is a waiting request or an overrun on an open port." A broken port "is served no more".
+-- port k has something to serve (rule 4.13); a broken one never has (rule 5.13)
 unfoldable pub hasWork : View → List ℕ → ℕ → Bool
 hasWork v rings k = isOpen (v .state k) && isWork (pendingAt v rings k)
 
--- "A turn looks at the ports in ring order from the pointer .., wrapping after 7": the i-th that it looks at
+-- the i-th port that a turn comes to (rule 5.2)
 abbrev pub lookedAt : View → ℕ → ℕ
 lookedAt v i = (v .pointer + i) % ports
 
--- "and serves the first with something to serve": how many it passes over before that; all where there is none
+-- how many it passes over before the one that it serves (rule 5.3); all, where none has something to serve
 unfoldable pub passedOver : View → List ℕ → ℕ
 passedOver v rings = least ports (λ i. hasWork v rings (lookedAt v i))
 
 -- ---- idle
 
--- "each open port's req_event becomes C + 1 modulo 2^32": port k's, by its state
+-- the rings with port k's req_event set, where the port is open (rule 5.8)
 abbrev pub armedPort : State → List ℕ → ℕ → ℕ → List ℕ
 armedPort State.Closed rings k consumed = rings
 armedPort State.Open rings k consumed = setPage rings k (setReqEvent (pageOf rings k) (after consumed))
 armedPort State.Broken rings k consumed = rings
 
--- and the first n ports'
+-- and that of each of the first n ports
 unfoldable pub armed : View → List ℕ → ℕ → List ℕ
 armed v rings zero = rings
 armed v rings (suc k) = armedPort (v .state k) (armed v rings k) k (v .consumed k)
 
--- "With none, the answer is idle, ..., and each open port's req_event becomes C + 1 modulo 2^32. That is the only change."
+-- an idle turn: no byte changes but those of req_event (rules 5.6, 5.8 and 5.9)
 unfoldable pub idle : View → List ℕ → TurnEffect
 idle v rings = record { rings = armed v rings ports; words = noWords; answer = Turned.Idle }
 
 -- ---- a response
 
--- "A response goes to slot R mod 32; R rises by one; rsp_prod becomes the new R, from our own number.": the page after it
+-- A page after a response: it stands in the slot of rsp_prod_pvt, and rsp_prod follows that index of our own (rules 6.1, 6.2 and 6.4), never the page's
+-- (rule 10.2).
 unfoldable pub responded : Ring → List ℕ → ℕ → Pair → Status → List ℕ
 responded g page produced q s = setRspProd (setResponse (g .layout) page (slotAt g produced) q s) (after produced)
 
--- the rings after a response of port k
+-- the rings after a response of port k: no other page changes (rule 6.6)
 unfoldable pub respondedAt : View → List ℕ → ℕ → Pair → Status → List ℕ
 respondedAt v rings k q s = setPage rings k (responded (ringAt v k) (pageOf rings k) (v .produced k) q s)
 
--- "Notify is yes exactly when rsp_event equals the new R."
+-- whether the guest is to be told of the response (rule 6.5)
 unfoldable pub notifies : View → List ℕ → ℕ → Bool
 notifies v rings k = eqb (rspEvent (pageOf rings k)) (after (v .produced k))
 
 -- ---- serving
 
--- "Serving a request: the 112 bytes of slot C mod 32 are used"
+-- the request that port k has next, in the slot of req_cons (rule 5.15)
 unfoldable pub requestAt : View → List ℕ → ℕ → Request
 requestAt v rings k = requestOf (ringAt v k .layout) (slotOf (ringAt v k) (pageOf rings k) (v .consumed k))
 
--- "Passed: a ticket with id, operation, serial (C before the rise) and expected result. The answer is the plan: port, ticket, serial, ... Pages unchanged."
--- "Not passed: a response at once. The answer has port, reason, status, notify."
+-- What a turn makes of the request that it took. One that fails a check gets its response (rules 5.31 and 5.32); one that passes them starts, under the
+-- lowest free tag, with req_cons for its serial, and no page changes (rules 5.19 to 5.22 and 5.30).
 unfoldable pub settled : View → List ℕ → ℕ → Request → Verdict → TurnEffect
 settled v rings k r (Verdict.Refused n s) = record {
   rings = respondedAt v rings k (r .pair) s;
@@ -100,18 +101,18 @@ settled v rings k r (Verdict.Start plan) = record {
   answer = Turned.Started (portId k) (tagId (lowestFree (ringAt v k .size) (v .tag k))) (serialOf (v .consumed k)) plan;
 }
 
--- "Serving an overrun: ...; no page byte changes; the answer is port and overrun."
+-- an overrun is served: the bytes stay (rules 5.11 and 5.12)
 unfoldable pub overran : List ℕ → ℕ → TurnEffect
 overran rings k = record { rings = rings; words = noWords; answer = Turned.Overrun (portId k) }
 
--- serving port k, by what its req_prod says: nothing is not served
+-- port k is served, by what its req_prod says (rule 4.12); where that is nothing, it is not
 unfoldable pub servedBy : View → List ℕ → List ℕ → ℕ → Pending → TurnEffect
 servedBy v rings grants k Pending.Nothing = idle v rings
 servedBy v rings grants k Pending.Waits =
     settled v rings k (requestAt v rings k) (verdictOf (v .params k) (grantsOf grants k) (requestAt v rings k))
 servedBy v rings grants k Pending.Overrun = overran rings k
 
--- a turn that is not refused
+-- a turn that is not refused: one port is served, or none (rules 5.3 and 5.6)
 unfoldable pub turned : View → List ℕ → List ℕ → TurnEffect
 turned v rings grants =
     let k = lookedAt v (passedOver v rings) in

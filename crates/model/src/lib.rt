@@ -1,20 +1,30 @@
 // The types that every layer shares. What they mean, and all the rules, stand in specs/.
 
-// A port's number, as the host hands it in: any u32, 0 to 7 are ports.
+pub mod buffer;
+pub mod grant;
+pub mod layout;
+pub mod limit;
+pub mod node;
+pub mod operation;
+pub mod reason;
+pub mod refusal;
+pub mod result;
+
+// A port's number, as the host hands it in: any u32, 0 to 7 are ports (rules 1.1 and 7.2).
 pub struct PortId(pub u32);
 
-// The number of a started request's place in its port: document 01's ticket.
+// The number of a tag (ticket): a started request's place in its port (rule 4.7).
 pub struct TagId(pub u32);
 
-// The request index that a started request was taken at.
+// The request index that a started request was taken at (rule 5.21).
 pub struct Serial(pub u32);
 
-// How a guest lays out requests and responses.
+// How a guest lays out requests and responses (rule 1.16).
 pub enum Abi {
     Bits64,
 }
 
-// The disk's sector size, in bytes.
+// The disk's sector size, in bytes (rule 3.5).
 pub enum SectorSize {
     Bytes512,
     Bytes1024,
@@ -22,7 +32,7 @@ pub enum SectorSize {
     Bytes4096,
 }
 
-// What a node sheet says of a port.
+// What a node sheet says of a port (rule 3.5).
 pub struct Params {
     pub writable: bool,
     pub barrier: bool,
@@ -34,33 +44,33 @@ pub struct Params {
     pub abi: Abi,
 }
 
-// What the decimal digits of a body spell.
+// What the decimal digits of a body spell (rules 3.7 and 3.8).
 pub enum Number {
     Value(u64),
     TooBig,
     NotANumber,
 }
 
-// A body of the sheet: read as a value, or refused with its number.
+// What a body of the sheet comes to: a value, or the number of its refusal (rule 3.9).
 pub enum Body {
     Value(u64),
     Refused(u32),
 }
 
-// A whole sheet: read, or refused with its number.
+// What a whole sheet comes to: a port's params, or the number of its refusal (rule 3.10).
 pub enum Sheet {
     Read(Params),
     Refused(u32),
 }
 
-// A port is closed, open or broken.
+// What a port can be (rule 4.1).
 pub enum State {
     Closed,
     Open,
     Broken,
 }
 
-// A port. consumed counts the requests taken (C; ring.h's req_cons), produced the responses given (R; rsp_prod_pvt); busy has a mark for each tag.
+// A port. consumed is ring.h's req_cons (taken, C), produced its rsp_prod_pvt (answered, R) (rule 4.2); busy has a mark for each tag (rule 4.7).
 pub struct Port {
     pub state: State,
     pub params: Params,
@@ -69,41 +79,41 @@ pub struct Port {
     pub busy: u64,
 }
 
-// What a guest tells its requests apart by.
+// What a guest tells its requests apart by (rule 12.12).
 pub struct Pair {
     pub id: u64,
     pub operation: u8,
 }
 
-// What is kept of a started request until it is completed.
+// What a tag keeps of a started request until it is completed (rule 5.20).
 pub struct Tag {
     pub pair: Pair,
     pub serial: Serial,
     pub expected: u32,
 }
 
-// What a port's req_prod says.
+// What a port's req_prod says (rule 4.12).
 pub enum Pending {
     Nothing,
     Waits,
     Overrun,
 }
 
-// One segment of a request: sectors first to last of a frame.
+// One segment of a request: sectors first to last of a frame (rules 2.6 and 2.7).
 pub struct Segment {
     pub frame: u32,
     pub first: u8,
     pub last: u8,
 }
 
-// The status of a response.
+// The status of a response (rule 2.12).
 pub enum Status {
     Okay,
     Error,
     NotSupported,
 }
 
-// What the host is to do. Its extents stand beside it, in words that the caller lends.
+// What the host is to do (rule 5.22; operation is the plan's kind). Its extents stand beside it, in words that the caller lends (rule 5.33).
 pub struct Plan {
     pub operation: u8,
     pub start: u64,
@@ -112,29 +122,35 @@ pub struct Plan {
     pub extents: u32,
 }
 
-// What the checks say of a request: the number of the first that it fails, with the status due; or its plan.
+// What checks say of a request: it passes them all, or the number of the first that it fails, with the status due (rule 8.2).
+pub enum Checked {
+    Passed,
+    Refused(u32, Status),
+}
+
+// What all the checks say: a refusal, or the request's plan (rule 5.19).
 pub enum Verdict {
     Refused(u32, Status),
     Start(Plan),
 }
 
-// The answer of open and close.
+// The answer of open and close (rule 11.4).
 pub enum Reply {
     Refused(u32),
     Done,
 }
 
-// The answer of a turn.
+// The answer of a turn (rule 11.4).
 pub enum Turned {
     Refused(u32),
     Idle,
     Overrun(PortId),
     Started(PortId, TagId, Serial, Plan),
-    // The port, the reason 21 to 29, the status, and whether to notify the guest.
+    // The port, the reason 21 to 29, the status, and whether to notify the guest (rule 5.32).
     Answered(PortId, u32, Status, bool),
 }
 
-// The answer of a completion.
+// The answer of a completion (rule 6.13).
 pub enum Completed {
     Refused(u32),
     Done(PortId, Status, bool),

@@ -1,6 +1,6 @@
 -- The laws of a walk over the table of contents: what is left of each definition at an entry. Assumes nothing.
-use mathlib.Core.Path.{_≡_, refl}
-use mathlib.Core.Bool.{Bool, true, false, _&&_}
+use mathlib.Core.Path.{_≡_, sym}
+use mathlib.Core.Bool.{true, false, _&&_}
 use mathlib.Core.List.{List, [], _∷_}
 use Prim.Native.Nat.{ℕ, zero, suc, _+_, _-_, _*_, _<_, _≤_}
 use native.Mathlib.Nat.{sub-zero}
@@ -12,6 +12,7 @@ use borrow.Author.Tests.{lt-ltb, le-ltb, le-leb, lt-leb, eq-eqb, ne-eqb}
 use Rattle.wire.specs.Part.{part}
 use Rattle.model.specs.Base.{all}
 use Rattle.model.specs.NodeSheet.{Entry, entryAt, bodyLength, entriesFrom, entryCount, entriesOf, bodiesEnd, wellFormed, rising, present}
+use Rattle.model.proofs.Base.{and-false}
 use Rattle.nodes.specs.Contents.{isClear}
 
 -- ---- what is left at entry i, whose body begins at a place of the sheet
@@ -122,10 +123,6 @@ pub formed-empty : (s : List ℕ) → length s ≡ 0 → false ≡ wellFormed s
 unfolding wellFormed
 formed-empty s h = rw (le-ltb 0 (length s) (omega arith))
 
-and-false : (b : Bool) → false ≡ b && false
-and-false true = refl
-and-false false = refl
-
 module _ (s : List ℕ) (h : 0 < length s) where
   pub formed-many : 9 < entryCount s → false ≡ wellFormed s
   unfolding wellFormed
@@ -137,7 +134,7 @@ module _ (s : List ℕ) (h : 0 < length s) where
   formed-cut l =
       let at = 1 + 4 * entryCount s in
       rw (ne-eqb (bodiesEnd (entryCount s) s 0 at) (length s) (λ e. omega (arith, ends-least (entryCount s) s 0 at)))
-      (and-false (ltb 0 (length s) && leb (entryCount s) 9 && all isClear (entriesOf s)))
+      (sym (and-false (ltb 0 (length s) && leb (entryCount s) 9 && all isClear (entriesOf s))))
 
   module _ (m : entryCount s ≤ 9) where
     pub formed-unclear : all isClear (entriesOf s) ≡ false → false ≡ wellFormed s

@@ -1,5 +1,5 @@
 -- The laws of the whole sheet's reader: what each of its tests settles, in the order of the tests. Assumes nothing.
-use mathlib.Core.Path.{_≡_, sym, _∙_}
+use mathlib.Core.Path.{_≡_, sym, ap, _∙_}
 use mathlib.Core.Bool.{Bool, true, false, not, _&&_}
 use mathlib.Core.List.{List}
 use Prim.Native.Nat.{ℕ, _+_, _*_, _<_, _≤_}
@@ -8,19 +8,15 @@ use lib.Dec.{eqb, ltb, leb}
 use lib.ListN.{length, getD}
 use borrow.Author.Tests.{ltb-true, leb-true, eqb-true, not-true, not-false}
 use Rattle.model.specs.Base.{all}
-use Rattle.model.specs.NodeSheet.{Entry, entryAt, entryCount, entriesOf, bodiesEnd, wellFormed, rising, valueOf, paramsOf, hasRequired, sheetOf}
+use Rattle.model.specs.NodeSheet.{entryAt, entryCount, entriesOf, bodiesEnd, wellFormed, rising, afterBodies, valuesOf, paramsOf, hasRequired, sheetOf}
 use Rattle.model.specs.declared.Params.{Params}
 use Rattle.model.specs.declared.Sheet.{Sheet}
+use Rattle.model.proofs.Base.{and-left, and-right}
 use Rattle.nodes.specs.Contents.{Contents, isClear}
 use Rattle.nodes.specs.declared.bodies.Bodies.{Bodies}
-use Rattle.nodes.specs.Values.{Readable, absent, BodiesRead, paramsBy}
+use Rattle.nodes.specs.declared.bodies.Fault.{Fault}
+use Rattle.nodes.specs.Values.{Readable, refusedOr, BodiesRead}
 use Rattle.nodes.proofs.Entries.{ends-least}
-use Rattle.nodes.proofs.Values.{both, refused-some, refused-none}
-
--- the values stored say what the values looked up say
-params-same : (values : List ℕ) (es : List Entry) → ((node : ℕ) → getD values node 0 ≡ valueOf node (getD absent node 0) es) → paramsBy values ≡ paramsOf es
-unfolding paramsBy paramsOf
-params-same values es h = rw (h 1, h 2, h 3, h 4, h 5, h 6, h 7)
 
 -- a well-formed sheet has its table of contents, and its bodies end it
 formed-parts : (s : List ℕ) → wellFormed s ≡ true → Contents s × (bodiesEnd (entryCount s) s 0 (entryAt (entryCount s)) ≡ length s)
@@ -30,14 +26,13 @@ formed-parts s h =
     let b = leb (entryCount s) 9 in
     let c = all isClear (entriesOf s) in
     let place = bodiesEnd (entryCount s) s 0 (1 + 4 * entryCount s) in
-    let abc = both (a && b && c) (eqb place (length s)) h in
-    let ab = both (a && b) c (abc .0) .0 in
-    let end : place ≡ length s = eqb-true place (length s) (abc .1) in
-    let some : 0 < length s = ltb-true 0 (length s) (both a b ab .0) in
-    let few : entryCount s ≤ 9 = leb-true (entryCount s) 9 (both a b ab .1) in
+    let ab = and-left (a && b) c (and-left (a && b && c) (eqb place (length s)) h) in
+    let end : place ≡ length s = eqb-true place (length s) (and-right (a && b && c) (eqb place (length s)) h) in
+    let some : 0 < length s = ltb-true 0 (length s) (and-left a b ab) in
+    let few : entryCount s ≤ 9 = leb-true (entryCount s) 9 (and-right a b ab) in
     (record { some = some; few = few; whole = omega (arith, ends-least (entryCount s) s 0 (1 + 4 * entryCount s)) }, end)
 
--- what `read_sheet` learns, test by test: whether the sheet is well formed, whether its nodes rise, its bodies, whether it is hasRequired
+-- what `read_sheet` learns, test by test: whether the sheet is well formed, whether its nodes rise, its bodies, whether it has what is required
 module _ (s : List ℕ) (f : Bool) (formed : f ≡ wellFormed s) where
   pub sheet-malformed : not f ≡ true → Sheet.Refused 11 ≡ sheetOf s
   unfolding sheetOf
@@ -63,19 +58,20 @@ module _ (s : List ℕ) (f : Bool) (formed : f ≡ wellFormed s) where
         formed-readable = record { contents = formed-contents; end = formed-parts s is-formed .1; risen = is-risen }
 
         module _ (b : Bodies) (bodies : BodiesRead (entriesOf s) b) where
-          pub sheet-fault : (b .fault ≡ 0 → ⊥) → Sheet.Refused (b .fault) ≡ sheetOf s
-          unfolding sheetOf
-          sheet-fault n = rw (is-formed, is-risen) (sym (refused-some (b .fault) _ (omega arith)) ∙ bodies .fault _)
+          after-refused : (k : Fault) (then : Sheet) → b .fault ≡ k → refusedOr k then ≡ afterBodies (entriesOf s) then
+          after-refused k then e = rw (← e) (bodies .fault then)
 
-          module _ (none : b .fault ≡ 0) (t : Bool) (whole : t ≡ hasRequired (entriesOf s)) where
+          pub sheet-fault : (n : ℕ) → b .fault ≡ Fault.Refused n → Sheet.Refused n ≡ sheetOf s
+          unfolding sheetOf
+          sheet-fault n e = rw (is-formed, is-risen) (after-refused (Fault.Refused n) _ e)
+
+          module _ (none : b .fault ≡ Fault.None) (t : Bool) (whole : t ≡ hasRequired (entriesOf s)) where
             pub sheet-incomplete : not t ≡ true → Sheet.Refused 15 ≡ sheetOf s
             unfolding sheetOf
-            sheet-incomplete fails =
-                rw (is-formed, is-risen, ← whole, not-true t fails) (sym (refused-none (b .fault) _ none) ∙ bodies .fault (Sheet.Refused 15))
+            sheet-incomplete fails = rw (is-formed, is-risen, ← whole, not-true t fails) (after-refused Fault.None (Sheet.Refused 15) none)
 
-            pub sheet-read : not t ≡ false → (p : Params) → p ≡ paramsBy (b .values) → Sheet.Read p ≡ sheetOf s
+            pub sheet-read : not t ≡ false → (p : Params) → p ≡ paramsOf (λ node. getD (b .values) node 0) → Sheet.Read p ≡ sheetOf s
             unfolding sheetOf
             sheet-read passes p e =
-                let said = Sheet.Read (paramsOf (entriesOf s)) in
-                rw (is-formed, is-risen, ← whole, not-false t passes, e, params-same (b .values) (entriesOf s) (bodies .values none))
-                (sym (refused-none (b .fault) said none) ∙ bodies .fault said)
+                let same : p ≡ paramsOf (valuesOf (entriesOf s)) = e ∙ ap paramsOf (λ i node. bodies .values none node i) in
+                rw (is-formed, is-risen, ← whole, not-false t passes, same) (after-refused Fault.None _ none)

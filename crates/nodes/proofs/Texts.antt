@@ -3,7 +3,6 @@ use mathlib.Core.Path.{_≡_, refl, sym, ap}
 use mathlib.Core.Bool.{Bool, true, false, _&&_}
 use mathlib.Core.List.{List, [], _∷_}
 use Prim.Native.Nat.{ℕ, suc, _+_, _<_, _≤_}
-use native.Mathlib.Decide.{ℕ-discrete}
 use native.Mathlib.Numerals.{add-one}
 use native.Mathlib.Omega.{arith}
 use lib.ListN.{length, getD, drop}
@@ -11,9 +10,7 @@ use lib.Seq.{drop-cons, drop-length}
 use lib.Dec.{eqb}
 use borrow.Author.Tests.{eq-eqb, ne-eqb, le-leb, lt-leb}
 use Rattle.model.specs.Base.{same}
-use Rattle.model.specs.NodeSheet.{numberOf, modeBody, featureBody, numberBody, protocolBody, bodyOf}
-use Rattle.model.specs.declared.Number.{Number}
-use Rattle.nodes.specs.Text.{isAllowed}
+use Rattle.model.specs.NodeSheet.{numberOf, choiceBody, numberBody, isAllowed, protocolBody, bodyOf}
 
 -- ---- two texts
 
@@ -53,11 +50,11 @@ same-done a b i h l =
 
 -- ---- bodies, by node
 
-pub body-mode : (node : ℕ) (text : List ℕ) → node ≡ 1 → modeBody text ≡ bodyOf node text
+pub body-mode : (node : ℕ) (text : List ℕ) → node ≡ 1 → choiceBody text (114 ∷ []) (119 ∷ []) ≡ bodyOf node text
 unfolding bodyOf
 body-mode node text e = rw (eq-eqb node 1 e)
 
-pub body-feature : (node : ℕ) (text : List ℕ) → (node ≡ 1 → ⊥) → node ≤ 5 → featureBody text ≡ bodyOf node text
+pub body-feature : (node : ℕ) (text : List ℕ) → (node ≡ 1 → ⊥) → node ≤ 5 → choiceBody text (48 ∷ []) (49 ∷ []) ≡ bodyOf node text
 unfolding bodyOf
 body-feature node text n l = rw (ne-eqb node 1 n, le-leb node 5 l)
 
@@ -65,23 +62,6 @@ pub body-protocol : (node : ℕ) (text : List ℕ) → node ≡ 8 → protocolBo
 unfolding bodyOf
 body-protocol node text e = rw e
 
--- tests that agree give the same body
-number-alike : (f g : ℕ → Bool) (n : Number) → ((v : ℕ) → f v ≡ g v) → numberBody f n ≡ numberBody g n
-unfolding numberBody
-number-alike f g (Number.Value v) h = rw (h v)
-number-alike f g Number.TooBig h = refl
-number-alike f g Number.NotANumber h = refl
-
-pub body-count : (node : ℕ) (text : List ℕ) → 5 < node → (node ≡ 8 → ⊥) → numberBody (isAllowed node) (numberOf text) ≡ bodyOf node text
-unfolding bodyOf isAllowed
-body-count node text l n =
-    elim (ℕ-discrete node 6) [
-      | yes e ↦ rw e
-      | no six ↦
-          elim (ℕ-discrete node 7) [
-            | yes e ↦ rw e
-            | no seven ↦
-                rw (ne-eqb node 1 (λ e. omega arith), lt-leb node 5 l, ne-eqb node 6 six, ne-eqb node 7 seven, ne-eqb node 8 n)
-                (number-alike (isAllowed node) (λ v. eqb v 0) (numberOf text) (λ v. rw (ne-eqb node 6 six, ne-eqb node 7 seven)))
-          ]
-    ]
+pub body-number : (node : ℕ) (text : List ℕ) → 5 < node → (node ≡ 8 → ⊥) → numberBody (isAllowed node) (numberOf text) ≡ bodyOf node text
+unfolding bodyOf
+body-number node text l n = rw (ne-eqb node 1 (λ e. omega arith), lt-leb node 5 l, ne-eqb node 8 n)

@@ -1,26 +1,22 @@
 -- The laws of a walk over the bodies. Assumes nothing.
 use mathlib.Core.Path.{_≡_, refl, sym, _∙_}
-use mathlib.Core.Bool.{Bool, true, false, _&&_}
+use mathlib.Core.Bool.{true, _&&_}
 use mathlib.Core.List.{List, [], _∷_}
 use Prim.Native.Nat.{ℕ, zero, suc, _+_, _<_, _≤_}
 use native.Mathlib.Decide.{ℕ-discrete}
 use native.Mathlib.Omega.{arith}
 use lib.Dec.{ltb, leb}
-use lib.ListN.{length, getD, set, length-set}
+use lib.ListN.{length, getD, set, replicate, length-set}
 use lib.Seq.{getD-set-same, getD-set-other}
 use borrow.Author.Tests.{ltb-true, leb-true, eq-eqb, ne-eqb}
 use Rattle.wire.specs.Part.{part}
-use Rattle.model.specs.NodeSheet.{Entry, entryAt, bodyLength, entryCount, entriesOf, rising, bodyOf, afterBody, afterBodies, valueOf}
+use Rattle.model.specs.NodeSheet.{Entry, entryAt, bodyLength, entryCount, entriesOf, rising, bodyOf, afterBody, afterBodies, valueOf, absent, valuesOf}
 use Rattle.model.specs.declared.Body.{Body}
 use Rattle.model.specs.declared.Sheet.{Sheet}
-use Rattle.nodes.specs.Values.{Readable, absent, refusedOr, BodiesRead}
+use Rattle.model.proofs.Base.{and-left, and-right}
+use Rattle.nodes.specs.Values.{Readable, BodiesRead}
+use Rattle.nodes.specs.declared.bodies.Fault.{Fault}
 use Rattle.nodes.proofs.Entries.{left, left-all, left-next, left-none, ends, ends-all, ends-next, body-within}
-use Rattle.nodes.proofs.Laws.{body-refusal}
-
--- both parts of a test that holds
-pub both : (a b : Bool) → a && b ≡ true → (a ≡ true) × (b ≡ true)
-both true b e = (refl, e)
-both false b e = let z : _≡_ {A = ℕ} 0 1 = cc in absurd (omega arith)
 
 -- ---- rising nodes
 
@@ -33,9 +29,12 @@ pub record Risen (before node : ℕ) (es : List Entry) : Type 0 where
 risen-cons : (before : ℕ) (e : Entry) (es : List Entry) → rising before (e ∷ es) ≡ true → Risen before (e .node) es
 unfolding rising
 risen-cons before e es h =
-    let parts = both (ltb before (e .node) && leb (e .node) 9) (rising (e .node) es) h in
-    let here = both (ltb before (e .node)) (leb (e .node) 9) (parts .0) in
-    record { above = ltb-true before (e .node) (here .0); within = leb-true (e .node) 9 (here .1); on = parts .1 }
+    let here = and-left (ltb before (e .node) && leb (e .node) 9) (rising (e .node) es) h in
+    record {
+      above = ltb-true before (e .node) (and-left (ltb before (e .node)) (leb (e .node) 9) here);
+      within = leb-true (e .node) 9 (and-right (ltb before (e .node)) (leb (e .node) 9) here);
+      on = and-right (ltb before (e .node) && leb (e .node) 9) (rising (e .node) es) h;
+    }
 
 -- a node has no entry among those that rise from above it
 value-below : (es : List Entry) (before node a : ℕ) → rising before es ≡ true → node ≤ before → valueOf node a es ≡ a
@@ -76,15 +75,22 @@ module _ (s : List ℕ) (i at : ℕ) (h : i < entryCount s) where
         | no z ↦ rw (left-next s i at h, ne-eqb here node z, getD-set-other values here node v 0 (λ y. z (sym y)))
       ]
 
--- a refusal that is not 0
-pub refused-some : (n : ℕ) (then : Sheet) → 0 < n → refusedOr n then ≡ Sheet.Refused n
-refused-some zero then h = absurd (omega arith)
-refused-some (suc n) then h = refl
+-- what the code stores at first, by node; there is no node 0
+abbrev stored : List ℕ
+stored = 0 ∷ 0 ∷ 0 ∷ 0 ∷ 0 ∷ 0 ∷ 512 ∷ 0 ∷ 0 ∷ 0 ∷ []
 
--- no refusal
-pub refused-none : (n : ℕ) (then : Sheet) → n ≡ 0 → refusedOr n then ≡ then
-refused-none zero then h = refl
-refused-none (suc n) then h = absurd (omega arith)
+zeros : (n node : ℕ) → _≡_ {A = ℕ} (getD (replicate n 0) node 0) 0
+zeros zero node = refl
+zeros (suc n) zero = refl
+zeros (suc n) (suc node) = zeros n node
+
+stored-absent : (node : ℕ) → getD stored node 0 ≡ absent node
+unfolding absent
+stored-absent node =
+    elim (ℕ-discrete node 6) [
+      | yes e ↦ rw e
+      | no e ↦ rw (ne-eqb node 6 e) (getD-set-other (replicate 10 0) 6 node 512 0 e ∙ zeros 10 node)
+    ]
 
 -- ---- the walk
 
@@ -96,9 +102,10 @@ pub record Walked (s values : List ℕ) (at i : ℕ) : Type 0 where
   pub before : ℕ
   pub risen : rising before (left s i at) ≡ true
   pub after : (then : Sheet) → afterBodies (left s i at) then ≡ afterBodies (entriesOf s) then
-  pub value : (node : ℕ) → valueOf node (getD values node 0) (left s i at) ≡ valueOf node (getD absent node 0) (entriesOf s)
+  pub value : (node : ℕ) → valueOf node (getD values node 0) (left s i at) ≡ valuesOf (entriesOf s) node
 
-pub walked-start : (s : List ℕ) → Readable s → Walked s absent (entryAt (entryCount s)) 0
+pub walked-start : (s : List ℕ) → Readable s → Walked s stored (entryAt (entryCount s)) 0
+unfolding valuesOf
 walked-start s r = record {
   few = omega arith;
   long = refl;
@@ -106,7 +113,7 @@ walked-start s r = record {
   before = 0;
   risen = rw (left-all s) (r .risen);
   after = λ then. rw (left-all s);
-  value = λ node. rw (left-all s);
+  value = λ node. rw (left-all s, stored-absent node);
 }
 
 module _ (s values : List ℕ) (at i : ℕ) (w : Walked s values at i) where
@@ -134,15 +141,13 @@ module _ (s values : List ℕ) (at i : ℕ) (w : Walked s values at i) where
     walked-within = body-within s i at h (w .end)
 
     pub walked-stop : (n : ℕ) → bodyOf (getD s (entryAt i) 0) (part (bodyLength s i) s at) ≡ Body.Refused n
-        → BodiesRead (entriesOf s) (record { fault = n; values = values })
-    walked-stop n e =
-        let m = body-refusal (getD s (entryAt i) 0) (part (bodyLength s i) s at) n e in
-        record {
-          fault = λ then. refused-some n then (omega arith) ∙ after-stop s i at h n e then ∙ w .after then;
-          values = λ z. absurd (omega arith);
-        }
+        → BodiesRead (entriesOf s) (record { fault = Fault.Refused n; values = values })
+    walked-stop n e = record {
+      fault = λ then. after-stop s i at h n e then ∙ w .after then;
+      values = λ z. let y : _≡_ {A = ℕ} 0 1 = cc in absurd (omega arith);
+    }
 
-  pub walked-done : entryCount s ≤ i → BodiesRead (entriesOf s) (record { fault = 0; values = values })
+  pub walked-done : entryCount s ≤ i → BodiesRead (entriesOf s) (record { fault = Fault.None; values = values })
   unfolding afterBodies valueOf
   walked-done h = record {
     fault = λ then. (rw (left-none s i at h) at (w .after then));

@@ -6,12 +6,12 @@ use lib.Dec.{eqb}
 use lib.ListN.{length}
 use Rattle.model.specs.NodeSheet.{Entry, entryCount}
 
--- the table of contents lies in the sheet
+-- the table of contents lies in the sheet (rules 3.1 and 3.2)
 pub record Contents (sheet : List ℕ) : Type 0 where
   pub some : 0 < length sheet
   pub few : entryCount sheet ≤ 9
   pub whole : 1 + 4 * entryCount sheet ≤ length sheet
 
--- the reserved byte of an entry is zero
+-- the reserved byte of an entry is zero (rule 3.2)
 abbrev pub isClear : Entry → Bool
 isClear e = eqb (e .reserved) 0

@@ -1,4 +1,2 @@
 pub mod Contents
-pub mod Digits
-pub mod Text
 pub mod Values

@@ -1,33 +1,44 @@
 // The bodies of a sheet, read in turn.
+use crate::contents::ENTRIES;
 use crate::contents::ENTRY;
 use crate::contents::body_length;
 use crate::contents::entry_count;
 use crate::contents::node_at;
 use crate::text::read_body;
 use model::Body;
+use model::node::PLACES;
 ghost use mathlib.Core.Path.{_≡_};
 ghost use Prim.Native.Nat.{_+_, _*_, _≤_};
 ghost use lib.ListN.{length, getD};
 ghost use Rattle.wire.specs.Part.{part};
 ghost use Rattle.model.specs.NodeSheet.{entryAt, bodyLength, entriesOf, bodyOf};
-ghost use Rattle.nodes.specs.Values.{Readable, refusalOf, BodiesRead};
+ghost use Rattle.nodes.specs.Values.{Readable, faultOf, BodiesRead};
 
 // What each node is where the sheet has no entry for it. There is no node 0.
-const ABSENT: [u64; 10] = [0, 0, 0, 0, 0, 0, 512, 0, 0, 0];
+const ABSENT: [u64; PLACES] = [0, 0, 0, 0, 0, 0, 512, 0, 0, 0];
 
-// What the bodies say: the refusal of the first at fault, 0 where none is, and the value of each node, of no use where one is.
-pub struct Bodies {
-    pub fault: u32,
-    pub values: [u64; 10],
+// Whether a body is at fault, and what it is refused with.
+pub enum Fault {
+    None,
+    Refused(u32),
 }
 
-// The number that a body is refused with, 0 where it is read.
-fn refusal_of(body: Body) -> u32
-    ensures { λ r. ⌜ r ≡ refusalOf body ⌝ }
+// What the bodies say: the first fault, and the value of each node, of no use where there is one.
+pub struct Bodies {
+    pub fault: Fault,
+    pub values: [u64; PLACES],
+}
+
+fn fault_of(body: Body) -> Fault
+    ensures { λ r. ⌜ r ≡ faultOf body ⌝ }
 {
     match body {
-        Body::Refused(n) => n,
-        Body::Value(_) => 0,
+        Body::Refused(n) => {
+            return Fault::Refused(n);
+        }
+        Body::Value(_) => {
+            return Fault::None;
+        }
     }
 }
 
@@ -47,13 +58,13 @@ pub fn read_bodies(sheet: &[u8]) -> Bodies
 {
     let count = entry_count(sheet);
     let mut values = ABSENT;
-    let mut at = 1 + ENTRY * count;
+    let mut at = ENTRIES + ENTRY * count;
     let mut i = 0;
     while i < count {
         let body = body_at(sheet, i, at);
         let Body::Value(v) = body else {
             return Bodies {
-                fault: refusal_of(body),
+                fault: fault_of(body),
                 values,
             };
         };
@@ -62,5 +73,8 @@ pub fn read_bodies(sheet: &[u8]) -> Bodies
         at += body_length(sheet, i);
         i += 1;
     }
-    Bodies { fault: 0, values }
+    Bodies {
+        fault: Fault::None,
+        values,
+    }
 }

@@ -1,4 +1,5 @@
 // The table of contents of a sheet: whether refusal 11 or 12 is due, and what it says of each entry.
+use model::node::PAGE_ORDER;
 ghost use mathlib.Core.Path.{_≡_};
 ghost use Prim.Native.Nat.{_+_, _*_, _<_, _≤_};
 ghost use lib.ListN.{length, getD};
@@ -6,12 +7,16 @@ ghost use Rattle.model.specs.Base.{all};
 ghost use Rattle.model.specs.NodeSheet.{entryAt, bodyLength, entriesOf, bodiesEnd, wellFormed, rising, present};
 ghost use Rattle.nodes.specs.Contents.{Contents, isClear};
 
-// Each entry has four bytes, after the byte that counts them.
+// The entries begin after the byte that counts them, and have four bytes each: the node, one that is reserved, and two of the body's length.
+pub const ENTRIES: usize = 1;
+
 pub const ENTRY: usize = 4;
 
-const MOST_ENTRIES: usize = 9;
+const RESERVED: usize = 1;
 
-const LAST_NODE: usize = 9;
+const LENGTH: usize = 2;
+
+const MOST_ENTRIES: usize = PAGE_ORDER;
 
 // How many entries the sheet says it has.
 pub fn entry_count(sheet: &[u8]) -> usize
@@ -26,21 +31,21 @@ pub fn node_at(sheet: &[u8], i: usize) -> usize
     requires { ⌜ 5 + 4 * i ≤ length (now sheet) ⌝ }
     ensures { λ r. ⌜ r ≡ getD (now (sheet .entry)) (entryAt i) 0 ⌝ }
 {
-    sheet[1 + ENTRY * i] as usize
+    sheet[ENTRIES + ENTRY * i] as usize
 }
 
 fn reserved_at(sheet: &[u8], i: usize) -> u8
     requires { ⌜ 5 + 4 * i ≤ length (now sheet) ⌝ }
     ensures { λ r. ⌜ r ≡ getD (now (sheet .entry)) (entryAt i + 1) 0 ⌝ }
 {
-    sheet[1 + ENTRY * i + 1]
+    sheet[ENTRIES + ENTRY * i + RESERVED]
 }
 
 pub fn body_length(sheet: &[u8], i: usize) -> usize
     requires { ⌜ 5 + 4 * i ≤ length (now sheet) ⌝ }
     ensures { λ r. ⌜ (r ≡ bodyLength (now (sheet .entry)) i) × (r < 65536) ⌝ }
 {
-    wire::u16_at(sheet, 1 + ENTRY * i + 2) as usize
+    wire::u16_at(sheet, ENTRIES + ENTRY * i + LENGTH) as usize
 }
 
 // Whether no entry has a reserved byte set.
@@ -65,7 +70,7 @@ fn bodies_end(sheet: &[u8]) -> usize
     ensures { λ r. ⌜ r ≡ bodiesEnd (getD (now (sheet .entry)) 0 0) (now (sheet .entry)) 0 (entryAt (getD (now (sheet .entry)) 0 0)) ⌝ }
 {
     let count = entry_count(sheet);
-    let mut end = 1 + ENTRY * count;
+    let mut end = ENTRIES + ENTRY * count;
     let mut i = 0;
     while i < count {
         end += body_length(sheet, i);
@@ -85,7 +90,7 @@ pub fn well_formed(sheet: &[u8]) -> bool
     if count > MOST_ENTRIES {
         return false;
     }
-    if sheet.len() < 1 + ENTRY * count {
+    if sheet.len() < ENTRIES + ENTRY * count {
         return false;
     }
     if !reserved_clear(sheet) {
@@ -107,7 +112,7 @@ pub fn nodes_rise(sheet: &[u8]) -> bool
         if node <= before {
             return false;
         }
-        if node > LAST_NODE {
+        if node > PAGE_ORDER {
             return false;
         }
         before = node;

@@ -1,38 +1,33 @@
 // The node sheet: what it says of a port, or the number that it is refused with.
 // The sheet is read in place and in one pass over its bodies; the table of contents, at most 9 entries, is walked more than once.
+use crate::bodies::Fault;
 use crate::bodies::read_bodies;
 use crate::contents::has_node;
 use crate::contents::nodes_rise;
 use crate::contents::well_formed;
-use crate::text::BARRIER;
-use crate::text::DISCARD;
-use crate::text::FLUSH;
-use crate::text::MODE;
-use crate::text::SECTOR_SIZE;
-use crate::text::SECTORS;
-use crate::text::SECURE;
 use model::Abi;
 use model::Params;
 use model::SectorSize;
 use model::Sheet;
+use model::node::BARRIER;
+use model::node::DISCARD;
+use model::node::FLUSH;
+use model::node::MODE;
+use model::node::PLACES;
+use model::node::SECTOR_SIZE;
+use model::node::SECTORS;
+use model::node::SECURE;
+use model::refusal::SHEET_MISSING;
+use model::refusal::SHEET_NODES;
+use model::refusal::SHEET_SHAPE;
 ghost use mathlib.Core.Path.{_≡_};
-ghost use Rattle.model.specs.NodeSheet.{entriesOf, sectorSizeOf, hasRequired, sheetOf};
+ghost use lib.ListN.{getD};
+ghost use Rattle.model.specs.NodeSheet.{entriesOf, sectorSizeOf, paramsOf, hasRequired, sheetOf};
 ghost use Rattle.nodes.specs.Contents.{Contents};
-ghost use Rattle.nodes.specs.Values.{paramsBy};
 
 mod bodies;
 mod contents;
-mod number;
 mod text;
-
-pub use number::read_number;
-
-// The refusals of a whole sheet. Those of a body are in text.rt.
-const MALFORMED: u32 = 11;
-
-const NOT_RISING: u32 = 12;
-
-const INCOMPLETE: u32 = 15;
 
 fn sector_size(v: u64) -> SectorSize
     ensures { λ r. ⌜ r ≡ sectorSizeOf v ⌝ }
@@ -50,8 +45,8 @@ fn sector_size(v: u64) -> SectorSize
 }
 
 // What the values of the nodes say of a port. The protocol has one layout, and the page order one size.
-fn params_of(values: [u64; 10]) -> Params
-    ensures { λ r. ⌜ r ≡ paramsBy values ⌝ }
+fn params_of(values: [u64; PLACES]) -> Params
+    ensures { λ r. ⌜ r ≡ paramsOf (λ node. getD values node 0) ⌝ }
 {
     Params {
         writable: values[MODE] == 1,
@@ -84,19 +79,23 @@ pub fn read_sheet(sheet: &[u8]) -> Sheet
     ensures { λ r. ⌜ r ≡ sheetOf (now (sheet .entry)) ⌝ }
 {
     if !well_formed(sheet) {
-        return Sheet::Refused(MALFORMED);
+        return Sheet::Refused(SHEET_SHAPE);
     }
     if !nodes_rise(sheet) {
-        return Sheet::Refused(NOT_RISING);
+        return Sheet::Refused(SHEET_NODES);
     }
     let bodies = read_bodies(sheet);
     let fault = bodies.fault;
-    if fault != 0 {
-        return Sheet::Refused(fault);
+    match fault {
+        Fault::Refused(n) => {
+            return Sheet::Refused(n);
+        }
+        Fault::None => {
+            if !has_required(sheet) {
+                return Sheet::Refused(SHEET_MISSING);
+            }
+            let values = bodies.values;
+            return Sheet::Read(params_of(values));
+        }
     }
-    if !has_required(sheet) {
-        return Sheet::Refused(INCOMPLETE);
-    }
-    let values = bodies.values;
-    Sheet::Read(params_of(values))
 }

@@ -1,33 +1,17 @@
-// The texts of the bodies: each is read as a value, or refused with its number.
-use crate::read_number;
+// The texts of the bodies, each with its value or its refusal (rules 3.5 and 3.9).
+use decimal::read_number;
 use model::Body;
 use model::Number;
+use model::node::MODE;
+use model::node::PROTOCOL;
+use model::node::SECTOR_SIZE;
+use model::node::SECTORS;
+use model::node::SECURE;
+use model::refusal::SHEET_NUMBER;
+use model::refusal::SHEET_TEXT;
 ghost use mathlib.Core.Path.{_≡_};
 ghost use Rattle.model.specs.Base.{same};
-ghost use Rattle.model.specs.NodeSheet.{isSectorSize, protocolBody, numberBody, numberOf, bodyOf};
-ghost use Rattle.nodes.specs.Text.{choiceOf, isAllowed};
-
-// The nodes. They are also places in the array of values, so they are usize.
-pub const MODE: usize = 1;
-
-pub const BARRIER: usize = 2;
-
-pub const FLUSH: usize = 3;
-
-pub const DISCARD: usize = 4;
-
-pub const SECURE: usize = 5;
-
-pub const SECTOR_SIZE: usize = 6;
-
-pub const SECTORS: usize = 7;
-
-const PROTOCOL: usize = 8; // 9, ring-page-order, is what is left
-
-// The refusals of a body: another text than asked for, and a number that is not allowed there.
-const UNREADABLE: u32 = 13;
-
-const NOT_ALLOWED: u32 = 14;
+ghost use Rattle.model.specs.NodeSheet.{choiceBody, isSectorSize, protocolBody, numberBody, isAllowed, numberOf, bodyOf};
 
 // Whether a text is the one asked for.
 fn is_text(text: &[u8], asked: &[u8]) -> bool
@@ -47,16 +31,16 @@ fn is_text(text: &[u8], asked: &[u8]) -> bool
 }
 
 // One of two texts, for 0 and for 1.
-fn choice_body(text: &[u8], zero: &[u8], one: &[u8]) -> Body
-    ensures { λ r. ⌜ r ≡ choiceOf (now (text .entry)) (now (zero .entry)) (now (one .entry)) ⌝ }
+fn choice_body(text: &[u8], off: &[u8], on: &[u8]) -> Body
+    ensures { λ r. ⌜ r ≡ choiceBody (now (text .entry)) (now (off .entry)) (now (on .entry)) ⌝ }
 {
-    if is_text(text, zero) {
+    if is_text(text, off) {
         return Body::Value(0);
     }
-    if is_text(text, one) {
+    if is_text(text, on) {
         return Body::Value(1);
     }
-    Body::Refused(UNREADABLE)
+    Body::Refused(SHEET_TEXT)
 }
 
 fn protocol_body(text: &[u8]) -> Body
@@ -65,7 +49,7 @@ fn protocol_body(text: &[u8]) -> Body
     if is_text(text, b"x86_64-abi") {
         return Body::Value(0);
     }
-    Body::Refused(UNREADABLE)
+    Body::Refused(SHEET_TEXT)
 }
 
 fn is_sector_size(v: u64) -> bool
@@ -106,10 +90,10 @@ fn number_body(node: usize, text: &[u8]) -> Body
             if is_allowed(node, v) {
                 return Body::Value(v);
             }
-            Body::Refused(NOT_ALLOWED)
+            Body::Refused(SHEET_NUMBER)
         }
-        Number::TooBig => Body::Refused(NOT_ALLOWED),
-        Number::NotANumber => Body::Refused(UNREADABLE),
+        Number::TooBig => Body::Refused(SHEET_NUMBER),
+        Number::NotANumber => Body::Refused(SHEET_TEXT),
     }
 }
 

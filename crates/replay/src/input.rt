@@ -3,6 +3,9 @@ ghost use Prim.Native.Nat.{_≤_};
 ghost use lib.ListN.{length};
 ghost use Rattle.io.specs.Counts.{Counts};
 
+// A line has at most so many.
+pub const NUMBERS: usize = 128;
+
 // A number, and where the line goes on behind it.
 struct Read {
     value: u64,
@@ -32,8 +35,8 @@ fn wide(x: u8) -> u64 {
 fn skip(line: &[u8], from: usize) -> usize {
     let mut i = from;
     while i < line.len() {
-        if 48 <= line[i] {
-            if line[i] <= 57 {
+        if b'0' <= line[i] {
+            if line[i] <= b'9' {
                 return i;
             }
         }
@@ -48,13 +51,13 @@ fn number(line: &[u8], from: usize) -> Read {
     let mut i = from;
     while i < line.len() {
         let c = line[i];
-        if c < 48 {
+        if c < b'0' {
             return Read { value: v, next: i };
         }
-        if 57 < c {
+        if b'9' < c {
             return Read { value: v, next: i };
         }
-        let d = wide(c - 48);
+        let d = wide(c - b'0');
         if v <= (18446744073709551615 - d) / 10 {
             v = v * 10 + d;
         }
@@ -64,7 +67,7 @@ fn number(line: &[u8], from: usize) -> Read {
 }
 
 // The numbers of a line, each also as a byte; returns how many there are, at most as many as there are places for bytes.
-pub fn numbers(line: &[u8], words: &mut [u64; 128], bytes: &mut [u8]) -> usize
+pub fn numbers(line: &[u8], words: &mut [u64; NUMBERS], bytes: &mut [u8]) -> usize
     ensures { λ r. ⌜ Counts r (now (bytes .exit)) ⌝ }
 {
     let mut at: usize = 0;
@@ -75,7 +78,7 @@ pub fn numbers(line: &[u8], words: &mut [u64; 128], bytes: &mut [u8]) -> usize
             return i;
         }
         let r = number(line, at);
-        if i < 128 {
+        if i < NUMBERS {
             words[i] = r.value;
         }
         bytes[i] = (r.value % 256) as u8;

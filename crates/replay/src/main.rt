@@ -15,16 +15,34 @@
 // extents' frame, first sector, length and disk sector; `answered` with reason and status; `notify` where the guest is to be notified. Then each ring
 // byte that the call changed, as PLACE:BYTE, its place in the 32,768.
 //
-// Only safety is proved here: that each answer is right is proved in `backend`.
+// Only safety is proved here: that each answer is right is proved in `turn` and `backend`.
 mod input;
 mod output;
 
+use crate::input::NUMBERS;
 use libc::STDIN_FILENO;
 use memory::WORDS;
 use model::PortId;
 use model::Serial;
 use model::TagId;
+use model::buffer::GRANT_SHARE;
+use model::buffer::GRANTS;
+use model::buffer::PAGE;
+use model::buffer::PORTS;
+use model::buffer::RINGS;
+use model::buffer::TURN_WORDS;
 ghost use Rattle.io.specs.Counts.{Counts};
+
+// The buffers' numbers, as a line has them.
+const PORT_COUNT: u64 = PORTS as u64;
+
+const PAGE_BYTES: u64 = PAGE as u64;
+
+const RINGS_BYTES: u64 = RINGS as u64;
+
+const GRANT_BYTES: u64 = GRANT_SHARE as u64;
+
+const GRANTS_BYTES: u64 = GRANTS as u64;
 
 // The lower 32 bits, where a line has a larger number.
 fn narrow(n: u64) -> u32 {
@@ -52,11 +70,11 @@ fn signed(n: u64, negative: bool) -> i32 {
 }
 
 // The bytes from a place on, as far as the rings go.
-fn put_bytes(rings: &mut [u8; 32768], from: usize, bytes: &[u8]) {
+fn put_bytes(rings: &mut [u8; RINGS], from: usize, bytes: &[u8]) {
     let mut at = from;
     let mut i = 0;
     while i < bytes.len() {
-        if at < 32768 {
+        if at < RINGS {
             rings[at] = bytes[i];
             at += 1;
         }
@@ -65,22 +83,22 @@ fn put_bytes(rings: &mut [u8; 32768], from: usize, bytes: &[u8]) {
 }
 
 // What a guest writes counts as shown: only a call's own changes are told.
-fn guest(rings: &mut [u8; 32768], shown: &mut [u8; 32768], c: &[u64; 128], bytes: &[u8]) {
+fn guest(rings: &mut [u8; RINGS], shown: &mut [u8; RINGS], c: &[u64; NUMBERS], bytes: &[u8]) {
     if bytes.len() < 2 {
         return;
     }
-    let at = (c[0] % 8 * 4096 + c[1] % 4096) as usize;
+    let at = (c[0] % PORT_COUNT * PAGE_BYTES + c[1] % PAGE_BYTES) as usize;
     put_bytes(rings, at, &bytes[2..]);
     put_bytes(shown, at, &bytes[2..]);
 }
 
-fn grant(grants: &mut [u8; 8192], c: &[u64; 128]) {
-    let at = (c[0] % 8 * 1024 + c[1] % 1024) as usize;
+fn grant(grants: &mut [u8; GRANTS], c: &[u64; NUMBERS]) {
+    let at = (c[0] % PORT_COUNT * GRANT_BYTES + c[1] % GRANT_BYTES) as usize;
     grants[at] = (c[2] % 256) as u8;
 }
 
 // The sheet stands behind the port.
-fn open(memory: &mut [u64; WORDS], c: &[u64; 128], bytes: &[u8]) {
+fn open(memory: &mut [u64; WORDS], c: &[u64; NUMBERS], bytes: &[u8]) {
     output::text(b"open");
     if bytes.len() < 1 {
         return;
@@ -89,7 +107,7 @@ fn open(memory: &mut [u64; WORDS], c: &[u64; 128], bytes: &[u8]) {
     output::reply(answer);
 }
 
-fn close(memory: &mut [u64; WORDS], c: &[u64; 128]) {
+fn close(memory: &mut [u64; WORDS], c: &[u64; NUMBERS]) {
     output::text(b"close");
     let answer = backend::close(memory, PortId(narrow(c[0])));
     output::reply(answer);
@@ -97,13 +115,13 @@ fn close(memory: &mut [u64; WORDS], c: &[u64; 128]) {
 
 // A turn that is lent the first r bytes of the rings and the first g of the grants. The words are filled with ones first, so that a word that is not
 // cleared would show.
-fn turn(memory: &mut [u64; WORDS], rings: &mut [u8], grants: &[u8], r: u64, g: u64) {
+fn take_turn(memory: &mut [u64; WORDS], rings: &mut [u8], grants: &[u8], r: u64, g: u64) {
     output::text(b"turn");
-    let mut words = [1u64; 44];
+    let mut answer = [1u64; TURN_WORDS];
     let lent = within(r, rings);
     let granted = within(g, grants);
-    let answer = backend::turn(memory, &mut rings[..lent], &grants[..granted], &mut words);
-    output::turned(answer, &words);
+    let turned = turn::turn(memory, &mut rings[..lent], &grants[..granted], &mut answer);
+    output::turned(turned, &answer);
 }
 
 // A completion that is lent the first r bytes of the rings.
@@ -124,26 +142,26 @@ fn complete(memory: &mut [u64; WORDS], rings: &mut [u8], r: u64, names: [u64; 3]
 // One of the four calls.
 fn call(
     memory: &mut [u64; WORDS],
-    rings: &mut [u8; 32768],
-    grants: &[u8; 8192],
+    rings: &mut [u8; RINGS],
+    grants: &[u8; GRANTS],
     letter: u8,
-    c: &[u64; 128],
+    c: &[u64; NUMBERS],
     negative: bool,
 ) {
     if letter == b'c' {
         close(memory, c);
     }
     if letter == b't' {
-        turn(memory, rings, grants, 32768, 8192);
+        take_turn(memory, rings, grants, RINGS_BYTES, GRANTS_BYTES);
     }
     if letter == b'T' {
-        turn(memory, rings, grants, c[0], c[1]);
+        take_turn(memory, rings, grants, c[0], c[1]);
     }
     if letter == b'f' {
         complete(
             memory,
             rings,
-            32768,
+            RINGS_BYTES,
             [c[0], c[1], c[2]],
             signed(c[3], negative),
         );
@@ -162,14 +180,14 @@ fn call(
 // A line that is no comment. Only a result can be negative, so a minus sign anywhere is its own.
 fn run_line(
     memory: &mut [u64; WORDS],
-    rings: &mut [u8; 32768],
-    shown: &mut [u8; 32768],
-    grants: &mut [u8; 8192],
+    rings: &mut [u8; RINGS],
+    shown: &mut [u8; RINGS],
+    grants: &mut [u8; GRANTS],
     line: &[u8],
     letter: u8,
 ) {
-    let mut c = [0u64; 128];
-    let mut bytes = [0u8; 128];
+    let mut c = [0u64; NUMBERS];
+    let mut bytes = [0u8; NUMBERS];
     let n = input::numbers(line, &mut c, &mut bytes);
     if letter == b'b' {
         guest(rings, shown, &c, &bytes[..n]);
@@ -198,9 +216,9 @@ fn run_line(
 // A line of the input. An empty one says nothing.
 fn read_line(
     memory: &mut [u64; WORDS],
-    rings: &mut [u8; 32768],
-    shown: &mut [u8; 32768],
-    grants: &mut [u8; 8192],
+    rings: &mut [u8; RINGS],
+    shown: &mut [u8; RINGS],
+    grants: &mut [u8; GRANTS],
     line: &[u8],
 ) {
     if line.len() == 0 {
@@ -218,9 +236,9 @@ fn read_line(
 // Every line of the input, from the empty backend.
 fn run(text: &[u8]) {
     let mut memory = [0u64; WORDS];
-    let mut rings = [0u8; 32768];
-    let mut shown = [0u8; 32768];
-    let mut grants = [0u8; 8192];
+    let mut rings = [0u8; RINGS];
+    let mut shown = [0u8; RINGS];
+    let mut grants = [0u8; GRANTS];
     let mut at = 0;
     while at < text.len() {
         let end = input::find(text, at, b'\n');

@@ -8,6 +8,11 @@ use model::Serial;
 use model::Status;
 use model::TagId;
 use model::Turned;
+use model::buffer::EXTENTS_FROM;
+use model::buffer::RINGS;
+use model::buffer::TURN_WORDS;
+use model::limit::EXTENT;
+use model::limit::EXTENT_WORDS;
 
 pub fn text(s: &[u8]) {
     io::write_all(STDOUT_FILENO, s);
@@ -39,14 +44,14 @@ fn refused(n: u32) {
 }
 
 // The words of n extents, and those of unused places where one is not zero.
-fn extents(words: &[u64; 44], n: u32) {
+fn extents(answer: &[u64; TURN_WORDS], n: u32) {
     let mut i: usize = 0;
-    while i < 44 {
-        if i < 4 * (n as usize) || words[i] != 0 {
-            if i % 4 == 0 {
+    while i < EXTENT_WORDS {
+        if i < EXTENT * (n as usize) || answer[EXTENTS_FROM + i] != 0 {
+            if i % EXTENT == 0 {
                 text(b" |");
             }
-            word(words[i]);
+            word(answer[EXTENTS_FROM + i]);
         }
         i += 1;
     }
@@ -92,28 +97,28 @@ pub fn reply(r: Reply) {
     }
 }
 
-// The answer of a turn, with the words that it leaves. A refused turn leaves them as they were, and shows none.
-pub fn turned(t: Turned, words: &[u64; 44]) {
+// The answer of a turn, with the extents that it leaves. A refused turn leaves them as they were, and shows none.
+pub fn turned(t: Turned, answer: &[u64; TURN_WORDS]) {
     match t {
         Turned::Refused(n) => refused(n),
         Turned::Idle => {
             text(b" idle");
-            extents(words, 0);
+            extents(answer, 0);
         }
         Turned::Overrun(port) => {
             text(b" overrun port");
             word(port.0 as u64);
-            extents(words, 0);
+            extents(answer, 0);
         }
         Turned::Started(port, tag, serial, p) => {
             let n = p.extents;
             started(port, tag, serial);
             plan(p);
-            extents(words, n);
+            extents(answer, n);
         }
         Turned::Answered(port, reason, s, yes) => {
             answered(port, reason, s, yes);
-            extents(words, 0);
+            extents(answer, 0);
         }
     }
 }
@@ -139,9 +144,9 @@ fn byte(place: usize, b: u8) {
 }
 
 // Each ring byte that differs from what was shown last; from then on it counts as shown.
-pub fn changed(shown: &mut [u8; 32768], rings: &[u8; 32768]) {
+pub fn changed(shown: &mut [u8; RINGS], rings: &[u8; RINGS]) {
     let mut i: usize = 0;
-    while i < 32768 {
+    while i < RINGS {
         let b = rings[i];
         if shown[i] != b {
             byte(i, b);

@@ -1,58 +1,61 @@
 -- What a pass over the segments has found so far, and how one more segment is taken in. Assumes nothing.
 use borrow.Author.Tests.{lt-ltb, le-ltb}
-use mathlib.Core.Path.{_≡_, refl, sym, _∙_}
-use mathlib.Core.Bool.{Bool, true, false, _&&_, _||_}
+use mathlib.Core.Path.{_≡_, refl, sym, ap, _∙_}
+use mathlib.Core.Bool.{Bool, true, false, cond, _&&_}
 use mathlib.Core.List.{List, [], _∷_, _++_}
 use Prim.Native.Nat.{ℕ, _+_, _-_, _*_, _%_, _^_, _<_, _≤_}
 use native.Mathlib.Decide.{decLt}
 use native.Mathlib.Nat.{zero-add, mod-eq-of-lt}
 use native.Mathlib.Omega.{arith}
-use lib.Dec.{eqb, ltb}
+use lib.Dec.{ltb}
 use lib.ListN.{length, getD, take, length-append}
 use lib.Seq.{sets, length-sets}
 use Rattle.model.specs.Base.{all}
 use Rattle.model.specs.Buffers.{grantShare}
-use Rattle.model.specs.Checks.{isWithinFrame, sectorsIn, totalSectors}
+use Rattle.model.specs.Checks.{suffices, isGranted, isWithinFrame, sectorsIn, totalSectors}
 use Rattle.model.specs.Ring.{Layout, segmentOf, segmentsOf}
 use Rattle.model.specs.Plan.{Extent, extentsFrom, extentWords}
 use Rattle.model.specs.declared.Segment.{Segment}
-use Rattle.request.specs.Segments.{grantedFor, passes, Scanned}
-use Rattle.request.proofs.Laws.{and-true, and-false, all-and, all-snoc, all-fails, length-segments, segments-snoc, within-total, total-snoc, length-extents, extents-snoc, words-snoc, words-add, take-put}
+use Rattle.model.proofs.Base.{and-left, and-right, and-false}
+use Rattle.request.specs.Segments.{passes, Scanned}
+use Rattle.request.specs.declared.segments.Counted.{Counted}
+use Rattle.request.proofs.Slot.{all-and, all-snoc, all-fails, length-segments, segments-snoc, within-total, total-snoc}
+use Rattle.request.proofs.Words.{length-extents, extents-snoc, words-snoc, words-add, take-put}
 
 -- ---- one segment
 
-module _ (need : ℕ) (grants : List ℕ) (s : Segment) where
-  pub passes-yes : isWithinFrame s ≡ true → s .frame < grantShare → (eqb (getD grants (s .frame) 0) 2 || eqb (getD grants (s .frame) 0) need) ≡ true
-      → passes need grants s ≡ true
-  unfolding passes
+module _ (grants : List ℕ) (operation : ℕ) (s : Segment) where
+  pub passes-yes : isWithinFrame s ≡ true → s .frame < grantShare → suffices operation (getD grants (s .frame) 0) ≡ true
+      → passes grants operation s ≡ true
+  unfolding passes isGranted
   passes-yes w f g = rw (w, lt-ltb (s .frame) 1024 f, g)
 
   -- 26
-  pub fails-within : isWithinFrame s ≡ false → passes need grants s ≡ false
+  pub fails-within : isWithinFrame s ≡ false → passes grants operation s ≡ false
   unfolding passes
   fails-within h = rw h
 
   -- 27: no such frame is granted
-  pub fails-frame : grantShare ≤ s .frame → passes need grants s ≡ false
-  unfolding passes
+  pub fails-frame : grantShare ≤ s .frame → passes grants operation s ≡ false
+  unfolding passes isGranted
   fails-frame h = rw (le-ltb (s .frame) 1024 h) (and-false (isWithinFrame s))
 
   -- 27: granted as nothing that serves
-  pub fails-grant : (eqb (getD grants (s .frame) 0) 2 || eqb (getD grants (s .frame) 0) need) ≡ false → passes need grants s ≡ false
-  unfolding passes
+  pub fails-grant : suffices operation (getD grants (s .frame) 0) ≡ false → passes grants operation s ≡ false
+  unfolding passes isGranted
   fails-grant h = rw (h, and-false (ltb (s .frame) 1024)) (and-false (isWithinFrame s))
 
 -- segments that pass both checks pass each
-pub passes-each : (need : ℕ) (grants : List ℕ) (ss : List Segment)
-    → all (passes need grants) ss ≡ all isWithinFrame ss && all (grantedFor need grants) ss
+pub passes-each : (grants : List ℕ) (operation : ℕ) (ss : List Segment)
+    → all (passes grants operation) ss ≡ all isWithinFrame ss && all (isGranted grants operation) ss
 unfolding passes
-passes-each need grants ss = all-and isWithinFrame (grantedFor need grants) ss
+passes-each grants operation ss = all-and isWithinFrame (isGranted grants operation) ss
 
-pub passes-within : (need : ℕ) (grants : List ℕ) (ss : List Segment) → all (passes need grants) ss ≡ true → all isWithinFrame ss ≡ true
-passes-within need grants ss h = and-true (all isWithinFrame ss) (all (grantedFor need grants) ss) (sym (passes-each need grants ss) ∙ h) .0
+pub passes-within : (grants : List ℕ) (operation : ℕ) (ss : List Segment) → all (passes grants operation) ss ≡ true → all isWithinFrame ss ≡ true
+passes-within grants operation ss h = and-left (all isWithinFrame ss) (all (isGranted grants operation) ss) (sym (passes-each grants operation ss) ∙ h)
 
-pub passes-granted : (need : ℕ) (grants : List ℕ) (ss : List Segment) → all (passes need grants) ss ≡ true → all (grantedFor need grants) ss ≡ true
-passes-granted need grants ss h = and-true (all isWithinFrame ss) (all (grantedFor need grants) ss) (sym (passes-each need grants ss) ∙ h) .1
+pub passes-granted : (grants : List ℕ) (operation : ℕ) (ss : List Segment) → all (passes grants operation) ss ≡ true → all (isGranted grants operation) ss ≡ true
+passes-granted grants operation ss h = and-right (all isWithinFrame ss) (all (isGranted grants operation) ss) (sym (passes-each grants operation ss) ∙ h)
 
 -- a small number is found again after it was added with a wrap
 unwrapped : (a b s : ℕ) → a < 2 ^ 64 → b ≤ 88 → s < 2 ^ 64 → (a + s) % 2 ^ 64 ≡ (s + b) % 2 ^ 64 → a ≡ b
@@ -64,15 +67,15 @@ unwrapped a b s h k l e =
 
 -- ---- the segments so far
 
-pub record Upto (need : ℕ) (grants : List ℕ) (start : ℕ) (ss : List Segment) (words : List ℕ) (sector : ℕ) : Type 0 where
-  pub passed : all (passes need grants) ss ≡ true
+pub record Upto (grants : List ℕ) (operation : ℕ) (start : ℕ) (ss : List Segment) (words : List ℕ) (sector : ℕ) : Type 0 where
+  pub passed : all (passes grants operation) ss ≡ true
   pub reached : sector ≡ (start + totalSectors ss) % 2 ^ 64
   pub front : start + totalSectors ss < 2 ^ 64 → take (4 * length ss) words ≡ extentWords (length ss) (extentsFrom start ss)
   pub long : length words ≡ 44
 
-module _ (need : ℕ) (grants : List ℕ) (start : ℕ) where
+module _ (grants : List ℕ) (operation : ℕ) (start : ℕ) where
   -- before the first segment
-  pub upto-none : (words : List ℕ) → start < 2 ^ 64 → length words ≡ 44 → Upto need grants start [] words start
+  pub upto-none : (words : List ℕ) → start < 2 ^ 64 → length words ≡ 44 → Upto grants operation start [] words start
   unfolding all totalSectors extentsFrom extentWords
   upto-none words h l = record {
     passed = refl;
@@ -82,18 +85,18 @@ module _ (need : ℕ) (grants : List ℕ) (start : ℕ) where
   }
 
   -- one segment more
-  pub upto-more : (ss : List Segment) (s : Segment) (words : List ℕ) (sector : ℕ) → Upto need grants start ss words sector → length ss < 11
-      → passes need grants s ≡ true
-      → Upto need grants start (ss ++ s ∷ []) (sets words (4 * length ss) (s .frame ∷ s .first ∷ sectorsIn s ∷ sector ∷ [])) ((sector + sectorsIn s) % 2 ^ 64)
+  pub upto-more : (ss : List Segment) (s : Segment) (words : List ℕ) (sector : ℕ) → Upto grants operation start ss words sector → length ss < 11
+      → passes grants operation s ≡ true
+      → Upto grants operation start (ss ++ s ∷ []) (sets words (4 * length ss) (s .frame ∷ s .first ∷ sectorsIn s ∷ sector ∷ [])) ((sector + sectorsIn s) % 2 ^ 64)
   upto-more ss s words sector u h e = record {
-    passed = all-snoc (passes need grants) ss s (u .passed) e;
+    passed = all-snoc (passes grants operation) ss s (u .passed) e;
     reached = rw (total-snoc ss s, u .reached) (omega arith);
     front = λ l. more (rw (total-snoc ss s) at l);
     long = length-sets words (4 * length ss) (s .frame ∷ s .first ∷ sectorsIn s ∷ sector ∷ []) ∙ u .long;
   }
     where
       x : Extent
-      x = record { frame = s .frame; first = s .first; length = sectorsIn s; sector = start + totalSectors ss }
+      x = record { frame = s .frame; first = s .first; count = sectorsIn s; sector = start + totalSectors ss }
 
       more : start + (totalSectors ss + sectorsIn s) < 2 ^ 64
           → take (4 * length (ss ++ s ∷ [])) (sets words (4 * length ss) (s .frame ∷ s .first ∷ sectorsIn s ∷ sector ∷ []))
@@ -105,54 +108,51 @@ module _ (need : ℕ) (grants : List ℕ) (start : ℕ) where
           rw (q, extents-snoc start ss s, rw (length-extents start ss) at (words-snoc (extentsFrom start ss) x), take-put words (length ss) (s .frame) (s .first) (sectorsIn s) sector (omega arith), u .front k, here)
 
   -- the next segment of a slot, with the words that the code puts for it
-  pub upto-next : (l : Layout) (slot : List ℕ) (i : ℕ) (words : List ℕ) (sector : ℕ) → Upto need grants start (segmentsOf i l slot 0) words sector → i < 11
-      → passes need grants (segmentOf l slot i) ≡ true
+  pub upto-next : (l : Layout) (slot : List ℕ) (i : ℕ) (words : List ℕ) (sector : ℕ) → Upto grants operation start (segmentsOf i l slot 0) words sector → i < 11
+      → passes grants operation (segmentOf l slot i) ≡ true
       → (frame first len : ℕ) → frame ≡ segmentOf l slot i .frame → first ≡ segmentOf l slot i .first → len ≡ sectorsIn (segmentOf l slot i)
-      → Upto need grants start (segmentsOf (i + 1) l slot 0) (sets words (4 * i) (frame ∷ first ∷ len ∷ sector ∷ [])) ((sector + len) % 2 ^ 64)
+      → Upto grants operation start (segmentsOf (i + 1) l slot 0) (sets words (4 * i) (frame ∷ first ∷ len ∷ sector ∷ [])) ((sector + len) % 2 ^ 64)
   upto-next l slot i words sector u h e frame first len a b c =
       rw (a, b, c, segments-snoc i l slot 0, zero-add i)
       (rw (length-segments i l slot 0) at
       (upto-more (segmentsOf i l slot 0) (segmentOf l slot i) words sector u (omega (arith, length-segments i l slot 0)) e))
 
   -- after the last: the sectors passed over are those of the segments
-  pub upto-all : (ss : List Segment) (words : List ℕ) (sector count : ℕ) → Upto need grants start ss words sector → length ss ≤ 11
-      → start < 2 ^ 64 → (count + start) % 2 ^ 64 ≡ sector → count < 2 ^ 64 → Scanned need grants start ss count words
+  pub upto-all : (ss : List Segment) (words : List ℕ) (sector count : ℕ) → Upto grants operation start ss words sector → length ss ≤ 11
+      → start < 2 ^ 64 → (count + start) % 2 ^ 64 ≡ sector → count < 2 ^ 64 → Scanned grants operation start ss (Counted.Sectors count) words
   upto-all ss words sector count u h i e l =
-      let few : totalSectors ss ≤ 8 * length ss = within-total ss (passes-within need grants ss (u .passed)) .1 in
+      let few : totalSectors ss ≤ 8 * length ss = within-total ss (passes-within grants operation ss (u .passed)) in
       let same : count ≡ totalSectors ss = unwrapped count (totalSectors ss) start l (omega arith) i (e ∙ u .reached) in
-      record { total = rw (u .passed) same; front = λ _ k. u .front k }
+      record { found = rw (u .passed) (ap Counted.Sectors same); front = λ _ k. u .front k }
 
   -- a segment that does not pass
-  pub scan-fails : (ss : List Segment) (words : List ℕ) → all (passes need grants) ss ≡ false → Scanned need grants start ss 0 words
-  scan-fails ss words h = record { total = rw h; front = λ e. let z : _≡_ {A = ℕ} 0 1 = cc in absurd (omega arith) }
+  pub scan-fails : (ss : List Segment) (words : List ℕ) → all (passes grants operation) ss ≡ false → Scanned grants operation start ss Counted.Fault words
+  scan-fails ss words h = record { found = rw h; front = λ e. let z : _≡_ {A = ℕ} 0 1 = cc in absurd (omega arith) }
 
   -- segment i of a slot does not pass
-  pub fails-at : (l : Layout) (slot : List ℕ) (n i : ℕ) (words : List ℕ) → i < n → passes need grants (segmentOf l slot i) ≡ false
-      → Scanned need grants start (segmentsOf n l slot 0) 0 words
+  pub fails-at : (l : Layout) (slot : List ℕ) (n i : ℕ) (words : List ℕ) → i < n → passes grants operation (segmentOf l slot i) ≡ false
+      → Scanned grants operation start (segmentsOf n l slot 0) Counted.Fault words
   fails-at l slot n i words h e =
-      scan-fails (segmentsOf n l slot 0) words (all-fails (passes need grants) n l slot 0 i h (rw (zero-add i) e))
+      scan-fails (segmentsOf n l slot 0) words (all-fails (passes grants operation) n l slot 0 i h (rw (zero-add i) e))
 
 -- ---- what a pass says
 
-module _ (need : ℕ) (grants : List ℕ) (start : ℕ) (ss : List Segment) (count : ℕ) (words : List ℕ) (s : Scanned need grants start ss count words) where
-  -- no sectors: some segment failed
-  pub scan-none : 0 < length ss → count ≡ 0 → all (passes need grants) ss ≡ false
-  scan-none l z = go (all (passes need grants) ss) refl
-    where
-      go : (b : Bool) → all (passes need grants) ss ≡ b → all (passes need grants) ss ≡ false
-      go true e = absurd (omega (arith, within-total ss (passes-within need grants ss e) .0, rw e at (s .total)))
-      go false e = e
+found-fault : (b : Bool) (n : ℕ) → Counted.Fault ≡ cond b (Counted.Sectors n) Counted.Fault → b ≡ false
+found-fault true n e = let z : _≡_ {A = ℕ} 0 1 = cc in absurd (omega arith)
+found-fault false n e = refl
 
-  -- some sectors: every segment passed
-  pub scan-some : (count ≡ 0 → ⊥) → all (passes need grants) ss ≡ true
-  scan-some z = go (all (passes need grants) ss) refl
-    where
-      go : (b : Bool) → all (passes need grants) ss ≡ b → all (passes need grants) ss ≡ true
-      go true e = e
-      go false e = absurd (z (rw e at (s .total)))
+found-sectors : (b : Bool) (n count : ℕ) → Counted.Sectors count ≡ cond b (Counted.Sectors n) Counted.Fault → (b ≡ true) × (count ≡ n)
+found-sectors true n count e = (refl, cc)
+found-sectors false n count e = let z : _≡_ {A = ℕ} 0 1 = cc in absurd (omega arith)
 
-  pub scan-count : (count ≡ 0 → ⊥) → count ≡ totalSectors ss
-  scan-count z = rw (scan-some z) at (s .total)
+module _ (grants : List ℕ) (operation : ℕ) (start : ℕ) (ss : List Segment) (found : Counted) (words : List ℕ) (s : Scanned grants operation start ss found words) where
+  -- some segment failed
+  pub scan-fault : found ≡ Counted.Fault → all (passes grants operation) ss ≡ false
+  scan-fault e = found-fault _ _ (sym e ∙ s .found)
+
+  -- every segment passed, and the sectors are theirs
+  pub scan-sectors : (count : ℕ) → found ≡ Counted.Sectors count → (all (passes grants operation) ss ≡ true) × (count ≡ totalSectors ss)
+  scan-sectors count e = found-sectors _ _ count (sym e ∙ s .found)
 
 -- the words of all places: the extents' in front, zeros behind
 pub words-all : (start n : ℕ) (ss : List Segment) (words : List ℕ) → length ss ≡ n → n ≤ 11

@@ -1,3 +1,3 @@
 pub mod Judge
-pub mod Reasons
+pub mod Operations
 pub mod Segments

@@ -1,57 +1,79 @@
 // One request, judged: the checks 21 to 29 over the copy of its slot, and the plan of a request that passes them.
 // Only the copy is read, so nothing that a guest writes meanwhile can change a field between its check and its use.
+use crate::segments::Counted;
+use model::Checked;
+use model::Params;
+use model::Plan;
+use model::Status;
+use model::Verdict;
+use model::layout;
+use model::layout::REQUEST_COUNT;
+use model::layout::REQUEST_OPERATION;
+use model::layout::SLOT;
+use model::operation::DISCARD;
+use model::reason::READ_ONLY;
+ghost use mathlib.Core.Bool.{cond};
 ghost use mathlib.Core.Path.{_≡_};
+ghost use lib.Dec.{ltb};
 ghost use lib.ListN.{length, getD};
 ghost use Rattle.model.specs.Buffers.{grantShare};
-ghost use Rattle.model.specs.Plan.{noWords};
+ghost use Rattle.model.specs.Plan.{planWords, noWords};
 ghost use Rattle.model.specs.Ring.{layoutOf, requestOf};
-ghost use Rattle.request.specs.Judge.{requestIn, Judged, emptyStart, discardStart};
-ghost use Rattle.request.specs.Reasons.{headReason, refusal};
+ghost use Rattle.model.specs.declared.Status.{Status as Due};
+ghost use Rattle.model.specs.declared.Verdict.{Verdict as Judgement};
+ghost use Rattle.request.specs.Judge.{requestIn, Judged, emptyStart, discardStart, dataStart};
+ghost use Rattle.request.specs.Operations.{operationReason};
 
-mod ends;
+mod disk_range;
 mod extents;
-mod head;
-mod layout;
+mod operations;
 mod segments;
 
 // What the guest tells this request apart by: its id and operation.
-pub fn pair_of(abi: model::Abi, slot: &[u8; 112]) -> model::Pair
+pub fn pair_of(abi: model::Abi, slot: &[u8; SLOT]) -> model::Pair
     ensures { λ r. ⌜ r ≡ requestOf (layoutOf abi) (now (slot .entry)) .pair ⌝ }
 {
     let at = layout::id_at(abi);
     model::Pair {
         id: wire::u64_at(slot, at),
-        operation: slot[0],
+        operation: slot[REQUEST_OPERATION],
     }
 }
 
 // The words of a turn that has no plan: all zero.
 pub fn no_extents(words: &mut [u64])
-    requires { ⌜ length (now words) ≡ 44 ⌝ }
+    requires { ⌜ length (now words) ≡ planWords ⌝ }
     ensures { λ _. ⌜ now (words .exit) ≡ noWords ⌝ }
 {
     extents::clear_from(words, 0);
 }
 
-// The refusal for a reason, and no extents.
-fn refuse(reason: u32, words: &mut [u64]) -> model::Verdict
-    requires { ⌜ length (now words) ≡ 44 ⌝ }
-    ensures { λ r. ⌜ (r ≡ refusal reason) × (now (words .exit) ≡ noWords) ⌝ }
+// A refusal, and no extents.
+fn refuse(reason: u32, status: Status, words: &mut [u64]) -> Verdict
+    requires { ⌜ length (now words) ≡ planWords ⌝ }
+    ensures { λ r. ⌜ (r ≡ Judgement.Refused reason status) × (now (words .exit) ≡ noWords) ⌝ }
 {
     extents::clear_from(words, 0);
-    if reason < 24 {
-        return model::Verdict::Refused(reason, model::Status::NotSupported);
+    Verdict::Refused(reason, status)
+}
+
+// The status that goes with a reason of the checks 21 to 25.
+fn status_of(reason: u32) -> Status
+    ensures { λ r. ⌜ r ≡ cond (ltb reason 24) Due.NotSupported Due.Error ⌝ }
+{
+    if reason < READ_ONLY {
+        return Status::NotSupported;
     }
-    model::Verdict::Refused(reason, model::Status::Error)
+    Status::Error
 }
 
 // The plan of a request that moves no sectors, and no extents.
-fn start_empty(operation: u8, words: &mut [u64]) -> model::Verdict
-    requires { ⌜ length (now words) ≡ 44 ⌝ }
+fn start_empty(operation: u8, words: &mut [u64]) -> Verdict
+    requires { ⌜ length (now words) ≡ planWords ⌝ }
     ensures { λ r. ⌜ (r ≡ emptyStart operation) × (now (words .exit) ≡ noWords) ⌝ }
 {
     extents::clear_from(words, 0);
-    model::Verdict::Start(model::Plan {
+    Verdict::Start(Plan {
         operation: operation,
         start: 0,
         count: 0,
@@ -67,11 +89,11 @@ fn wide(x: u8) -> u32
 }
 
 // The plan of a discard.
-fn start_discard(start: u64, count: u64, secure: bool) -> model::Verdict
+fn start_discard(start: u64, count: u64, secure: bool) -> Verdict
     ensures { λ r. ⌜ r ≡ discardStart start count secure ⌝ }
 {
-    model::Verdict::Start(model::Plan {
-        operation: 5,
+    Verdict::Start(Plan {
+        operation: DISCARD,
         start: start,
         count: count,
         secure: secure,
@@ -79,14 +101,22 @@ fn start_discard(start: u64, count: u64, secure: bool) -> model::Verdict
     })
 }
 
+// The plan of a request with segments.
+fn start_data(operation: u8, start: u64, count: u64, extents: u32) -> Verdict
+    ensures { λ r. ⌜ r ≡ dataStart operation start count extents ⌝ }
+{
+    Verdict::Start(Plan {
+        operation: operation,
+        start: start,
+        count: count,
+        secure: false,
+        extents: extents,
+    })
+}
+
 // A discard that passed the checks 21 to 25.
-fn discard(
-    params: model::Params,
-    slot: &[u8; 112],
-    grants: &[u8],
-    words: &mut [u64],
-) -> model::Verdict
-    requires { ⌜ (headReason params (requestIn params (now slot)) ≡ 0) × (getD (now slot) 0 0 ≡ 5) × (length (now words) ≡ 44) ⌝ }
+fn discard(params: Params, slot: &[u8; SLOT], grants: &[u8], words: &mut [u64]) -> Verdict
+    requires { ⌜ (operationReason params (requestIn params (now slot)) ≡ 0) × (getD (now slot) 0 0 ≡ 5) × (length (now words) ≡ planWords) ⌝ }
     ensures { λ r. ⌜ Judged params (now (grants .entry)) (now (slot .entry)) r (now (words .exit)) ⌝ }
 {
     let abi = params.abi;
@@ -94,64 +124,70 @@ fn discard(
     let start = wire::u64_at(slot, start_at);
     let count_at = layout::segments_at(abi);
     let count = wire::u64_at(slot, count_at);
-    let end = ends::end_reason(params, start, count);
-    if end != 0 {
-        return refuse(end, words);
+    let range = disk_range::check_range(params, start, count);
+    match range {
+        Checked::Refused(reason, status) => {
+            return refuse(reason, status, words);
+        }
+        Checked::Passed => {
+            extents::clear_from(words, 0);
+            if slot[REQUEST_COUNT] % 2 == 1 {
+                return start_discard(start, count, true);
+            }
+            return start_discard(start, count, false);
+        }
     }
-    extents::clear_from(words, 0);
-    if slot[1] % 2 == 1 {
-        return start_discard(start, count, true);
-    }
-    start_discard(start, count, false)
 }
 
 // A read, write or barrier with segments that passed the checks 21 to 25.
-fn data(params: model::Params, slot: &[u8; 112], grants: &[u8], words: &mut [u64]) -> model::Verdict
-    requires { ⌜ (length (now grants) ≡ grantShare) × (headReason params (requestIn params (now slot)) ≡ 0) × (getD (now slot) 0 0 ≡ 5 → ⊥) × (getD (now slot) 1 0 ≡ 0 → ⊥) × (length (now words) ≡ 44) ⌝ }
+fn data(params: Params, slot: &[u8; SLOT], grants: &[u8], words: &mut [u64]) -> Verdict
+    requires { ⌜ (length (now grants) ≡ grantShare) × (operationReason params (requestIn params (now slot)) ≡ 0) × (getD (now slot) 0 0 ≡ 5 → ⊥) × (getD (now slot) 1 0 ≡ 0 → ⊥) × (length (now words) ≡ planWords) ⌝ }
     ensures { λ r. ⌜ Judged params (now (grants .entry)) (now (slot .entry)) r (now (words .exit)) ⌝ }
 {
-    let operation = slot[0];
-    let n = wide(slot[1]);
+    let operation = slot[REQUEST_OPERATION];
+    let n = wide(slot[REQUEST_COUNT]);
     let abi = params.abi;
     let at = layout::start_at(abi);
     let start = wire::u64_at(slot, at);
-    let count = segments::scan(abi, slot, n as usize, grants, operation, start, words);
-    if count == 0 {
-        return refuse(segments::fault_reason(abi, slot, n as usize), words);
+    let found = segments::scan(abi, slot, n as usize, grants, operation, start, words);
+    match found {
+        Counted::Fault => {
+            return refuse(
+                segments::fault_reason(abi, slot, n as usize),
+                Status::Error,
+                words,
+            );
+        }
+        Counted::Sectors(count) => {
+            let range = disk_range::check_range(params, start, count);
+            match range {
+                Checked::Refused(reason, status) => {
+                    return refuse(reason, status, words);
+                }
+                Checked::Passed => {
+                    extents::clear_from(words, n as usize);
+                    return start_data(operation, start, count, n);
+                }
+            }
+        }
     }
-    let end = ends::end_reason(params, start, count);
-    if end != 0 {
-        return refuse(end, words);
-    }
-    extents::clear_from(words, n as usize);
-    model::Verdict::Start(model::Plan {
-        operation: operation,
-        start: start,
-        count: count,
-        secure: false,
-        extents: n,
-    })
 }
 
 // The verdict on the request in a slot's copy, and in `words` its extents: four words to each, zero where there is none.
-pub fn judge(
-    params: model::Params,
-    slot: &[u8; 112],
-    grants: &[u8],
-    words: &mut [u64],
-) -> model::Verdict
-    requires { ⌜ (length (now grants) ≡ grantShare) × (length (now words) ≡ 44) ⌝ }
+pub fn judge(params: Params, slot: &[u8; SLOT], grants: &[u8], words: &mut [u64]) -> Verdict
+    requires { ⌜ (length (now grants) ≡ grantShare) × (length (now words) ≡ planWords) ⌝ }
     ensures { λ r. ⌜ Judged params (now (grants .entry)) (now (slot .entry)) r (now (words .exit)) ⌝ }
 {
-    let head = head::head_reason(params, slot);
-    if head != 0 {
-        return refuse(head, words);
+    let reason = operations::operation_reason(params, slot);
+    if reason != 0 {
+        extents::clear_from(words, 0);
+        return Verdict::Refused(reason, status_of(reason));
     }
-    if slot[0] == 5 {
+    if slot[REQUEST_OPERATION] == DISCARD {
         return discard(params, slot, grants, words);
     }
-    if slot[1] == 0 {
-        return start_empty(slot[0], words);
+    if slot[REQUEST_COUNT] == 0 {
+        return start_empty(slot[REQUEST_OPERATION], words);
     }
     data(params, slot, grants, words)
 }

@@ -1,4 +1,3 @@
-pub mod Index
-pub mod Result
-pub mod Response
-pub mod Page
+pub mod Results
+pub mod Responses
+pub mod Pages

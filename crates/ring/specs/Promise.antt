@@ -11,17 +11,17 @@ use Rattle.model.specs.Turn.{responded}
 use Rattle.model.specs.declared.Pair.{Pair}
 use Rattle.model.specs.declared.Status.{Status}
 
--- "rsp_prod becomes the new R, from our own number. Notify is yes exactly when rsp_event equals the new R."
+-- rsp_prod is our own index raised by one (rule 6.4), and the guest is to be notified exactly where its rsp_event is that index (rule 6.5).
 pub record Published (before : List ℕ) (produced : ℕ) (left : List ℕ) (told : Bool) : Type 0 where
   pub page : left ≡ setRspProd before (after produced)
   pub notify : told ≡ eqb (rspEvent before) (after produced)
 
--- "A response goes to slot R mod 32; R rises by one; rsp_prod becomes the new R, from our own number. Notify is yes exactly when rsp_event equals the new R."
+-- The response too is in the page, in the slot of our index (rules 6.1 and 6.2).
 pub record Responded (g : Ring) (before : List ℕ) (produced : ℕ) (q : Pair) (s : Status) (left : List ℕ) (told : Bool) : Type 0 where
   pub page : left ≡ responded g before produced q s
   pub notify : told ≡ eqb (rspEvent before) (after produced)
 
--- the same of port k's page, and no byte of another port's changes
+-- The same of port k's page, and no byte of another port's changes (rule 6.6).
 pub record RespondedIn (g : Ring) (before : List ℕ) (k produced : ℕ) (q : Pair) (s : Status) (left : List ℕ) (told : Bool) : Type 0 where
   pub rings : left ≡ setPage before k (responded g (pageOf before k) produced q s)
   pub notify : told ≡ eqb (rspEvent (pageOf before k)) (after produced)

@@ -135,9 +135,3 @@ bytes-set b i x h l j =
             | no e ↦ rw (getD-set-other b i j x 0 e) (h j)
           ]
     ]
-
--- a store keeps every byte below 256
-pub bytes-store : (n : ℕ) (b : List ℕ) (i v : ℕ) → ((j : ℕ) → getD b j 0 < 256) → (j : ℕ) → getD (store n b i v) j 0 < 256
-unfolding store
-bytes-store zero b i v h j = h j
-bytes-store (suc n) b i v h j = bytes-set (store n b i v) (i + n) (v / 256 ^ n % 256) (bytes-store n b i v h) (mod-lt (v / 256 ^ n) (omega arith)) j

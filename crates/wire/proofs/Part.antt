@@ -150,10 +150,3 @@ bytes-drop n b h j = rw (getD-drop n b j 0) (h (n + j))
 pub bytes-part : (n : ℕ) (b : List ℕ) (i : ℕ) → ((j : ℕ) → getD b j 0 < 256) → (j : ℕ) → getD (part n b i) j 0 < 256
 unfolding part
 bytes-part n b i h = bytes-take n (drop i b) (bytes-drop i b h)
-
--- and the whole's after a part is put, where the part's are too
-pub bytes-setPart : (n : ℕ) (b : List ℕ) (i : ℕ) (p : List ℕ) → ((j : ℕ) → getD b j 0 < 256) → ((j : ℕ) → getD p j 0 < 256)
-    → (j : ℕ) → getD (setPart n b i p) j 0 < 256
-unfolding setPart
-bytes-setPart n b i p h k =
-    bytes-append (take i b) (p ++ drop n (drop i b)) (bytes-take i b h) (bytes-append p (drop n (drop i b)) k (bytes-drop n (drop i b) (bytes-drop i b h)))

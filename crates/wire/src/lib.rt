@@ -1,10 +1,11 @@
-// Little-endian numbers in a slice of bytes, and the copy of a slot.
+// Little-endian numbers in a slice of bytes.
 // The bytes are taken and put one by one, so that no read asks for an aligned address; the compiler joins them to one load or store.
 ghost use mathlib.Core.Path.{_≡_};
 ghost use Prim.Native.Nat.{_+_, _≤_, _<_};
 ghost use lib.ListN.{length, getD};
+ghost use mir.Syntax.{w16};
+ghost use mir.Val.{ofZ};
 ghost use Rattle.wire.specs.LittleEndian.{load, store};
-ghost use Rattle.wire.specs.Part.{part};
 
 // The byte at i, as a wider number. Its bound is said once here, so that no sum below has to prove it again.
 fn byte(b: &[u8], i: usize) -> u32
@@ -39,7 +40,31 @@ pub fn u64_at(b: &[u8], i: usize) -> u64
     u32_at(b, i) as u64 + u32_at(b, high) as u64 * 4294967296
 }
 
-// The four bytes of v go to i. The highest is cut by % 256 too, as in the definition of a store.
+// The two bytes of v go to i. The high one is cut by % 256 too, as in the definition of a store.
+pub fn put_u16(b: &mut [u8], i: usize, v: u16)
+    requires { ⌜ i + 2 ≤ length (now b) ⌝ }
+    ensures { λ _. ⌜ now (b .exit) ≡ store 2 (now (b .entry)) i v ⌝ }
+{
+    b[i] = (v % 256) as u8;
+    b[i + 1] = (v / 256 % 256) as u8;
+}
+
+// The 16 bits of a signed number: those of the number itself, or of 65536 more where it is negative.
+fn bits_16(v: i16) -> u16
+    ensures { λ r. ⌜ r ≡ ofZ w16 v ⌝ }
+{
+    ((v as i32 + 65536) as u32 % 65536) as u16
+}
+
+// The two bytes of the signed v go to i.
+pub fn put_i16(b: &mut [u8], i: usize, v: i16)
+    requires { ⌜ i + 2 ≤ length (now b) ⌝ }
+    ensures { λ _. ⌜ now (b .exit) ≡ store 2 (now (b .entry)) i (ofZ w16 v) ⌝ }
+{
+    put_u16(b, i, bits_16(v));
+}
+
+// The four bytes of v go to i. The highest is cut too.
 pub fn put_u32(b: &mut [u8], i: usize, v: u32)
     requires { ⌜ i + 4 ≤ length (now b) ⌝ }
     ensures { λ _. ⌜ now (b .exit) ≡ store 4 (now (b .entry)) i v ⌝ }
@@ -58,19 +83,4 @@ pub fn put_u64(b: &mut [u8], i: usize, v: u64)
     let high = i + 4;
     put_u32(b, i, (v % 4294967296) as u32);
     put_u32(b, high, (v / 4294967296) as u32);
-}
-
-// The 112 bytes from `at`. Each byte is read once, since another domain may write it in the meantime; look at the copy after that.
-// This says how the source reads. What the compiled code loads no proof shows: a compiler may load from the page again. tests/once looks at the archive.
-pub fn copy_slot(page: &[u8], at: usize) -> [u8; 112]
-    requires { ⌜ at + 112 ≤ length (now page) ⌝ }
-    ensures { λ r. ⌜ r ≡ part 112 (now (page .entry)) at ⌝ }
-{
-    let mut out = [0u8; 112];
-    let mut i = 0;
-    while i < 112 {
-        out[i] = page[at + i];
-        i += 1;
-    }
-    out
 }

@@ -1,5 +1,6 @@
 -- `memory::pointer` meets its contract: the definition, unfolded. Assumes nothing.
 use borrow.Author.Needs.{needs}
+use Rattle.memory.specs.Backend.{backendOf}
 use Rattle.memory.specs.Words.{pointerAt}
 use Rattle.memory.proofs.pointer.Statement.{statement}
 use Rattle.memory.proofs.pointer.Tie as tie
@@ -8,7 +9,7 @@ element-copy-out-result : tie.Need-element-copy-out-result
 element-copy-out-result c = search needs
 
 returns : tie.Need-returns
-unfolding pointerAt
+unfolding pointerAt backendOf
 returns c = search needs
 
 pub pointer-spec : {M : Type 1} → statement M

@@ -1,6 +1,6 @@
 -- `nodes::params_of` meets its contract: the fields are the definition's, and the sector size is what its function says. Assumes nothing.
 use borrow.Author.Needs.{needs}
-use Rattle.nodes.specs.Values.{paramsBy}
+use Rattle.model.specs.NodeSheet.{paramsOf}
 use Rattle.nodes.proofs.params_of.Statement.{statement}
 use Rattle.nodes.proofs.params_of.Tie as tie
 
@@ -29,7 +29,7 @@ array-read-t29 : tie.Need-array-read-t29
 array-read-t29 c = search needs
 
 returns : tie.Need-returns
-unfolding paramsBy
+unfolding paramsOf
 returns c = rw (c .sector-size .ensures)
 
 pub params-of-spec : {M : Type 1} → statement M

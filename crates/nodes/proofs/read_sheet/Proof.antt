@@ -19,8 +19,14 @@ returns-2 c = search sheet-falling
 read-bodies-requires : tie.Need-read-bodies-requires
 read-bodies-requires c κs = formed-readable (c .before .before .before .before .before .args .sheet .now) _ (c .before .before .before .well-formed .ensures) (c .before .before .if1 .left) _ (c .before .nodes-rise .ensures) (c .if2 .left)
 
+enum-known-fault : tie.Need-enum-known-fault
+enum-known-fault c = search needs
+
 returns-3 : tie.Need-returns-3
 returns-3 c = search sheet-fault
+
+enum-told : tie.Need-enum-told
+enum-told c = search needs
 
 has-required-requires : tie.Need-has-required-requires
 has-required-requires c κs = search formed-contents
@@ -43,7 +49,9 @@ read-sheet-spec =
     nodes-rise-requires
     returns-2
     read-bodies-requires
+    enum-known-fault
     returns-3
+    enum-told
     has-required-requires
     returns-4
     params-of-requires

@@ -1,19 +1,22 @@
--- `request::data` meets its contract: what the pass found, then the end's reason, or the plan. Assumes nothing.
+-- `request::data` meets its contract: what the pass found, then what the range's checks say, or the plan. Assumes nothing.
 use borrow.Author.Needs.{needs}
 use mathlib.Core.Path.{_≡_, sym, ap, ap₂, _∙_}
-use mathlib.Core.Bool.{false}
-use Prim.Native.Nat.{_+_, _^_, _<_, _≤_}
+use mathlib.Core.Bool.{true, false}
+use Prim.Native.Nat.{ℕ, _+_, _^_, _<_, _≤_}
 use native.Mathlib.Omega.{arith}
 use lib.ListN.{length}
+use Rattle.model.specs.Base.{all}
 use Rattle.model.specs.Ring.{Request, requestOf, layoutOf}
-use Rattle.model.specs.Checks.{totalSectors}
+use Rattle.model.specs.Checks.{totalSectors, operationChecks, diskChecks, firstFailed}
 use Rattle.model.specs.Plan.{extentWords}
+use Rattle.model.specs.declared.Checked.{Checked}
 use Rattle.request.specs.Judge.{requestIn}
-use Rattle.request.specs.Reasons.{endReason}
-use Rattle.request.specs.Segments.{needFor, Scanned}
-use Rattle.request.proofs.Laws.{length-segments}
-use Rattle.request.proofs.Scan.{scan-none, scan-some, scan-count, words-all}
-use Rattle.request.proofs.Verdict.{few-segments, start-within, data-fault, data-end, data-start, data-extents, same-start, judged-refused, judged-start}
+use Rattle.request.specs.Segments.{passes, Scanned}
+use Rattle.request.proofs.DiskRange.{passed-within}
+use Rattle.request.proofs.Slot.{length-segments}
+use Rattle.request.proofs.Scan.{scan-fault, scan-sectors, words-all}
+use Rattle.request.proofs.Steps.{operation-passed}
+use Rattle.request.proofs.Verdict.{data-few, data-fault, data-refused, data-started, data-extents, same-start, judged-refused, judged-start}
 use Rattle.request.proofs.data.Statement.{statement}
 use Rattle.request.proofs.data.Tie as tie
 
@@ -24,10 +27,13 @@ entry x = x .before .before .before .before .before .before .before .before .bef
 abbrev asked : tie.Start → Request
 asked o = requestIn (o .args .params) (o .args .slot .now)
 
+passed : (o : tie.Start) → firstFailed (operationChecks (o .args .params) (asked o)) ≡ Checked.Passed
+passed o = operation-passed (o .args .params) (asked o) (o .pre .1)
+
 -- at most 11 segments, and as many as byte 1 says
 few : (o : tie.Start) → asked o .n ≤ 11
 unfolding requestOf
-few o = few-segments (o .args .params) (asked o) (o .pre .1) (o .pre .2)
+few o = data-few (o .args .params) (o .args .grants .now) (asked o) (passed o) (o .pre .2)
 
 long : (o : tie.Start) → length (asked o .segments) ≡ asked o .n
 unfolding requestOf
@@ -39,9 +45,24 @@ unfolding requestOf
 begins x = rw (x .before .before .before .before .start-at .ensures .0) at (x .before .before .u64-at .ensures)
 
 found : (x : tie.After-scan)
-    → Scanned (needFor (asked (entry x) .pair .operation)) (entry x .args .grants .now) (asked (entry x) .start) (asked (entry x) .segments) (x .scan .result) (x .scan .last .1 .1 .1 .1 .1 .1 .0)
+    → Scanned (entry x .args .grants .now) (asked (entry x) .pair .operation) (asked (entry x) .start) (asked (entry x) .segments) (x .scan .result) (x .scan .last .1 .1 .1 .1 .1 .1 .0)
 unfolding requestOf
 found x = rw (x .before .before .before .before .before .wide .ensures, begins x) at (x .scan .ensures)
+
+-- every segment passed, and the range is the request's
+abbrev pass : tie.After-check-range → tie.After-scan
+pass k = k .before .before .before .before .before .before
+
+counted : (k : tie.After-check-range)
+    → (all (passes (entry (pass k) .args .grants .now) (asked (entry (pass k)) .pair .operation)) (asked (entry (pass k)) .segments) ≡ true)
+    × (k .before .before .found .given .0 .0 ≡ totalSectors (asked (entry (pass k)) .segments))
+counted k = scan-sectors _ _ _ _ _ _ (found (pass k)) _ (k .before .before .found .given .1)
+
+ranged : (k : tie.After-check-range)
+    → k .check-range .result ≡ firstFailed (diskChecks (entry (pass k) .args .params) (asked (entry (pass k)) .start) (totalSectors (asked (entry (pass k)) .segments)))
+ranged k =
+    k .check-range .ensures
+    ∙ ap₂ (λ (s n : ℕ). firstFailed (diskChecks (entry (pass k) .args .params) s n)) (begins (pass k)) (counted k .1)
 
 element-copy-out-operation : tie.Need-element-copy-out-operation
 element-copy-out-operation c = search needs
@@ -65,12 +86,15 @@ scan-requires : tie.Need-scan-requires
 unfolding requestOf
 scan-requires c κs = let o = c .before .before .before .before .before .before .before .before .before in omega (arith, few o, c .before .before .before .before .wide .ensures, o .pre .0)
 
+enum-told : tie.Need-enum-told
+enum-told c = search needs
+
 cast-fault-reason : tie.Need-cast-fault-reason
 cast-fault-reason c = search needs
 
 fault-reason-requires : tie.Need-fault-reason-requires
 unfolding requestOf
-fault-reason-requires c κs = let x = c .before .before .before in let o = entry x in omega (arith, few o, x .before .before .before .before .before .wide .ensures, o .pre .0)
+fault-reason-requires c κs = let x = c .before .before .before .before in let o = entry x in omega (arith, few o, x .before .before .before .before .before .wide .ensures, o .pre .0)
 
 refuse-requires : tie.Need-refuse-requires
 refuse-requires c κs = search needs
@@ -82,19 +106,26 @@ returns : tie.Need-returns
 unfolding requestOf
 returns c =
     let done = c .before .before in
-    let x = done .before .before .before .before .before .before in
+    let told = done .before .before .before in
+    let x = told .before .before .before .before in
     let o = entry x in
     let a = o .args in
     let r = asked o in
-    let none = scan-none _ _ _ (r .segments) _ _ (found x) (rw (long o) (omega (arith, o .pre .3))) (done .before .before .before .if1 .taken) in
+    let fault = scan-fault _ _ _ (r .segments) _ _ (found x) (told .enum-told .given .1) in
     let why = rw (x .before .before .before .before .before .wide .ensures) at (done .before .before .fault-reason .ensures) in
-    judged-refused (a .params) (a .grants .now) (a .slot .now) _ _ _
-    (data-fault (a .params) (a .grants .now) r (o .pre .1) (o .pre .2) (o .pre .3) none)
+    judged-refused (a .params) (a .grants .now) (a .slot .now) _ _ _ _
+    (data-fault (a .params) (a .grants .now) r (passed o) (o .pre .2) (o .pre .3) fault)
     (rw why at (done .refuse .ensures .0))
     (done .refuse .ensures .1)
 
-end-reason-requires : tie.Need-end-reason-requires
-end-reason-requires c κs = search needs
+enum-known-found : tie.Need-enum-known-found
+enum-known-found c = search needs
+
+check-range-requires : tie.Need-check-range-requires
+check-range-requires c κs = search needs
+
+enum-known-range : tie.Need-enum-known-range
+enum-known-range c = search needs
 
 refuse-requires-2 : tie.Need-refuse-requires-2
 refuse-requires-2 c κs = search needs
@@ -106,24 +137,26 @@ returns-2 : tie.Need-returns-2
 unfolding requestOf
 returns-2 c =
     let done = c .before .before in
-    let x = done .before .before .before .before .before .before .before in
-    let o = entry x in
+    let k = done .before .before .before .before .before in
+    let o = entry (pass k) in
     let a = o .args in
-    let r = asked o in
-    let some = scan-some _ _ _ (r .segments) _ _ (found x) (done .before .before .before .before .if1 .left) in
-    let total = scan-count _ _ _ (r .segments) _ _ (found x) (done .before .before .before .before .if1 .left) in
-    let end = done .before .before .before .end-reason .ensures ∙ ap₂ (endReason (a .params)) (begins x) total in
-    judged-refused (a .params) (a .grants .now) (a .slot .now) _ _ _
-    (data-end (a .params) (a .grants .now) r (o .pre .1) (o .pre .2) (o .pre .3) some (λ z. done .before .before .if2 .taken (end ∙ z)))
-    (rw end at (done .refuse2 .ensures .0))
+    judged-refused (a .params) (a .grants .now) (a .slot .now) _ _ _ _
+    (data-refused (a .params) (a .grants .now) (asked o) (passed o) (o .pre .2) (o .pre .3) (counted k .0) _ _ (sym (ranged k) ∙ done .before .before .before .range .given .1))
+    (done .refuse2 .ensures .0)
     (done .refuse2 .ensures .1)
+
+enum-told-2 : tie.Need-enum-told-2
+enum-told-2 c = search needs
 
 cast-clear-from : tie.Need-cast-clear-from
 cast-clear-from c = search needs
 
 clear-from-requires : tie.Need-clear-from-requires
 unfolding requestOf
-clear-from-requires c κs = let x = c .before .before .before .before .before .before in let o = entry x in omega (arith, few o, x .before .before .before .before .before .wide .ensures, o .pre .0)
+clear-from-requires c κs = let x = pass (c .before .before .before) in let o = entry x in omega (arith, few o, x .before .before .before .before .before .wide .ensures, o .pre .0)
+
+start-data-requires : tie.Need-start-data-requires
+start-data-requires c κs = search needs
 
 same-length-3 : tie.Need-same-length-3
 same-length-3 c = search needs
@@ -131,25 +164,25 @@ same-length-3 c = search needs
 returns-3 : tie.Need-returns-3
 unfolding requestOf
 returns-3 c =
-    let done = c .before .before in
-    let x = done .before .before .before .before .before .before .before in
+    let cleared = c .before .before .before in
+    let told = cleared .before .before in
+    let k = told .before .before in
+    let x = pass k in
     let o = entry x in
     let a = o .args in
     let p = a .params in
     let g = a .grants .now in
     let r = asked o in
     let n = x .before .before .before .before .before .wide .ensures in
-    let some = scan-some _ _ _ (r .segments) _ _ (found x) (done .before .before .before .before .if1 .left) in
-    let total = scan-count _ _ _ (r .segments) _ _ (found x) (done .before .before .before .before .if1 .left) in
-    let end = sym (done .before .before .before .end-reason .ensures ∙ ap₂ (endReason p) (begins x) total) ∙ done .before .before .if2 .left in
+    let whole = sym (ranged k) ∙ told .enum-told2 .given .1 in
     -- check 28 has passed: so no disk sector wrapped
-    let fits : r .start + totalSectors (r .segments) < 2 ^ 64 = omega (arith, start-within p (r .start) (totalSectors (r .segments)) end, o .good) in
+    let fits : r .start + totalSectors (r .segments) < 2 ^ 64 = omega (arith, passed-within p (r .start) (totalSectors (r .segments)) whole, o .good) in
     judged-start p g (a .slot .now) _ _ _
-    (data-start p g r (o .pre .1) (o .pre .2) (o .pre .3) some end)
-    (same-start _ false (begins x) total (n ∙ sym (long o)))
-    (rw n at (done .clear-from .ensures)
-    ∙ words-all (r .start) (r .n) (r .segments) _ (long o) (few o) (rw (long o) at (found x .front some fits))
-    ∙ ap (extentWords 11) (sym (data-extents p g r (o .pre .1) (o .pre .2) (o .pre .3))))
+    (data-started p g r (passed o) (o .pre .2) (o .pre .3) (counted k .0) whole)
+    (c .start-data .ensures ∙ same-start _ false (begins x) (counted k .1) (n ∙ sym (long o)))
+    (rw n at (cleared .clear-from .ensures)
+    ∙ words-all (r .start) (r .n) (r .segments) _ (long o) (few o) (rw (long o) at (found x .front (counted k .0) fits))
+    ∙ ap (extentWords 11) (sym (data-extents p g r (passed o) (o .pre .2))))
 
 pub data-spec : {M : Type 1} → statement M
 data-spec =
@@ -162,16 +195,21 @@ data-spec =
     u64-at-requires
     cast-scan
     scan-requires
+    enum-told
     cast-fault-reason
     fault-reason-requires
     refuse-requires
     same-length
     returns
-    end-reason-requires
+    enum-known-found
+    check-range-requires
+    enum-known-range
     refuse-requires-2
     same-length-2
     returns-2
+    enum-told-2
     cast-clear-from
     clear-from-requires
+    start-data-requires
     same-length-3
     returns-3)

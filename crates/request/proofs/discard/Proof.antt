@@ -1,31 +1,39 @@
--- `request::discard` meets its contract: the end's reason, or the plan. Assumes nothing.
+-- `request::discard` meets its contract: what the range's checks say, or the plan. Assumes nothing.
 use borrow.Author.Needs.{needs}
 use borrow.Author.Tests.{ne-eqb}
 use mathlib.Core.Path.{_≡_, refl, sym, ap, ap₂, _∙_}
-use Prim.Native.Nat.{_%_}
+use Prim.Native.Nat.{ℕ, _%_}
 use Rattle.model.specs.Ring.{Request, requestOf}
+use Rattle.model.specs.Checks.{operationChecks, diskChecks, firstFailed}
 use Rattle.model.specs.Plan.{extentWords}
+use Rattle.model.specs.declared.Checked.{Checked}
 use Rattle.request.specs.Judge.{requestIn}
-use Rattle.request.specs.Reasons.{endReason}
-use Rattle.request.proofs.Verdict.{discard-end, discard-start, discard-extents, same-start, judged-refused, judged-start}
+use Rattle.request.proofs.Steps.{operation-passed}
+use Rattle.request.proofs.Verdict.{discard-refused, discard-started, discard-extents, same-start, judged-refused, judged-start}
 use Rattle.request.proofs.discard.Statement.{statement}
 use Rattle.request.proofs.discard.Tie as tie
 
 -- where the function began, and the request
-abbrev entry : tie.After-end-reason → tie.Start
-entry e = e .before .before .before .before .before .before .before .before .before
+abbrev entry : tie.After-check-range → tie.Start
+entry k = k .before .before .before .before .before .before .before .before .before
 
 abbrev asked : tie.Start → Request
 asked o = requestIn (o .args .params) (o .args .slot .now)
 
--- what was read is the request's
-begins : (e : tie.After-end-reason) → e .before .before .before .before .u64-at .result ≡ asked (entry e) .start
-unfolding requestOf
-begins e = rw (e .before .before .before .before .before .before .start-at .ensures .0) at (e .before .before .before .before .u64-at .ensures)
+passed : (o : tie.Start) → firstFailed (operationChecks (o .args .params) (asked o)) ≡ Checked.Passed
+passed o = operation-passed (o .args .params) (asked o) (o .pre .0)
 
-counts : (e : tie.After-end-reason) → e .before .u64-at2 .result ≡ asked (entry e) .sectors
+-- what was read is the request's
+begins : (k : tie.After-check-range) → k .before .before .before .before .u64-at .result ≡ asked (entry k) .start
 unfolding requestOf
-counts e = rw (e .before .before .before .segments-at .ensures .0) at (e .before .u64-at2 .ensures)
+begins k = rw (k .before .before .before .before .before .before .start-at .ensures .0) at (k .before .before .before .before .u64-at .ensures)
+
+counts : (k : tie.After-check-range) → k .before .u64-at2 .result ≡ asked (entry k) .sectors
+unfolding requestOf
+counts k = rw (k .before .before .before .segments-at .ensures .0) at (k .before .u64-at2 .ensures)
+
+ranged : (k : tie.After-check-range) → k .check-range .result ≡ firstFailed (diskChecks (entry k .args .params) (asked (entry k) .start) (asked (entry k) .sectors))
+ranged k = k .check-range .ensures ∙ ap₂ (λ (s n : ℕ). firstFailed (diskChecks (entry k .args .params) s n)) (begins k) (counts k)
 
 start-at-requires : tie.Need-start-at-requires
 start-at-requires c κs = search needs
@@ -39,8 +47,11 @@ segments-at-requires c κs = search needs
 u64-at-requires-2 : tie.Need-u64-at-requires-2
 u64-at-requires-2 c κs = search needs
 
-end-reason-requires : tie.Need-end-reason-requires
-end-reason-requires c κs = search needs
+check-range-requires : tie.Need-check-range-requires
+check-range-requires c κs = search needs
+
+enum-known-range : tie.Need-enum-known-range
+enum-known-range c = search needs
 
 refuse-requires : tie.Need-refuse-requires
 refuse-requires c κs = search needs
@@ -52,20 +63,22 @@ returns : tie.Need-returns
 unfolding requestOf
 returns c =
     let done = c .before .before in
-    let e = done .before .before .before in
-    let o = entry e in
+    let k = done .before .before .before .before .before in
+    let o = entry k in
     let a = o .args in
-    let end = e .end-reason .ensures ∙ ap₂ (endReason (a .params)) (begins e) (counts e) in
-    judged-refused (a .params) (a .grants .now) (a .slot .now) _ _ _
-    (discard-end (a .params) (a .grants .now) (asked o) (o .pre .0) (o .pre .1) (λ z. done .before .before .if1 .taken (end ∙ z)))
-    (rw end at (done .refuse .ensures .0))
+    judged-refused (a .params) (a .grants .now) (a .slot .now) _ _ _ _
+    (discard-refused (a .params) (a .grants .now) (asked o) (passed o) (o .pre .1) _ _ (sym (ranged k) ∙ done .before .before .before .range .given .1))
+    (done .refuse .ensures .0)
     (done .refuse .ensures .1)
+
+enum-told : tie.Need-enum-told
+enum-told c = search needs
 
 clear-from-requires : tie.Need-clear-from-requires
 clear-from-requires c κs = search needs
 
-element-copy-out-if2 : tie.Need-element-copy-out-if2
-element-copy-out-if2 c = search needs
+element-copy-out-if1 : tie.Need-element-copy-out-if1
+element-copy-out-if1 c = search needs
 
 start-discard-requires : tie.Need-start-discard-requires
 start-discard-requires c κs = search needs
@@ -77,14 +90,14 @@ returns-2 : tie.Need-returns-2
 unfolding requestOf extentWords
 returns-2 c =
     let cleared = c .before .before .before .before .before in
-    let e = cleared .before .before .before in
-    let o = entry e in
+    let told = cleared .before .before in
+    let k = told .before .before in
+    let o = entry k in
     let a = o .args in
-    let end = sym (e .end-reason .ensures ∙ ap₂ (endReason (a .params)) (begins e) (counts e)) ∙ cleared .before .before .if1 .left in
     judged-start (a .params) (a .grants .now) (a .slot .now) _ _ _
-    (discard-start (a .params) (a .grants .now) (asked o) (o .pre .0) (o .pre .1) end)
-    (c .start-discard .ensures ∙ rw (c .before .if2 .taken) (same-start 5 _ (begins e) (counts e) refl))
-    (cleared .clear-from .ensures ∙ ap (extentWords 11) (sym (discard-extents (a .params) (a .grants .now) (asked o) (o .pre .0) (o .pre .1))))
+    (discard-started (a .params) (a .grants .now) (asked o) (passed o) (o .pre .1) (sym (ranged k) ∙ told .enum-told .given .1))
+    (c .start-discard .ensures ∙ rw (c .before .if1 .taken) (same-start 5 _ (begins k) (counts k) refl))
+    (cleared .clear-from .ensures ∙ ap (extentWords 11) (sym (discard-extents (a .params) (a .grants .now) (asked o) (passed o) (o .pre .1))))
 
 start-discard-requires-2 : tie.Need-start-discard-requires-2
 start-discard-requires-2 c κs = search needs
@@ -96,14 +109,14 @@ returns-3 : tie.Need-returns-3
 unfolding requestOf extentWords
 returns-3 c =
     let cleared = c .before .before .before .before .before in
-    let e = cleared .before .before .before in
-    let o = entry e in
+    let told = cleared .before .before in
+    let k = told .before .before in
+    let o = entry k in
     let a = o .args in
-    let end = sym (e .end-reason .ensures ∙ ap₂ (endReason (a .params)) (begins e) (counts e)) ∙ cleared .before .before .if1 .left in
     judged-start (a .params) (a .grants .now) (a .slot .now) _ _ _
-    (discard-start (a .params) (a .grants .now) (asked o) (o .pre .0) (o .pre .1) end)
-    (c .start-discard2 .ensures ∙ rw (ne-eqb (asked o .flag % 2) 1 (c .before .if2 .left)) (same-start 5 _ (begins e) (counts e) refl))
-    (cleared .clear-from .ensures ∙ ap (extentWords 11) (sym (discard-extents (a .params) (a .grants .now) (asked o) (o .pre .0) (o .pre .1))))
+    (discard-started (a .params) (a .grants .now) (asked o) (passed o) (o .pre .1) (sym (ranged k) ∙ told .enum-told .given .1))
+    (c .start-discard2 .ensures ∙ rw (ne-eqb (asked o .flag % 2) 1 (c .before .if1 .left)) (same-start 5 _ (begins k) (counts k) refl))
+    (cleared .clear-from .ensures ∙ ap (extentWords 11) (sym (discard-extents (a .params) (a .grants .now) (asked o) (passed o) (o .pre .1))))
 
 pub discard-spec : {M : Type 1} → statement M
 discard-spec =
@@ -113,12 +126,14 @@ discard-spec =
     u64-at-requires
     segments-at-requires
     u64-at-requires-2
-    end-reason-requires
+    check-range-requires
+    enum-known-range
     refuse-requires
     same-length
     returns
+    enum-told
     clear-from-requires
-    element-copy-out-if2
+    element-copy-out-if1
     start-discard-requires
     same-length-2
     returns-2

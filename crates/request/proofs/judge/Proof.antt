@@ -1,32 +1,39 @@
--- `request::judge` meets its contract: the head's reason, or what each kind of request makes of it. Assumes nothing.
+-- `request::judge` meets its contract: the reason of the checks 21 to 25, or what each kind of request makes of it. Assumes nothing.
 use borrow.Author.Needs.{needs}
 use mathlib.Core.Path.{_≡_, sym, ap, _∙_}
 use mathlib.Core.List.{[]}
 use Rattle.model.specs.Ring.{requestOf, segmentsOf}
 use Rattle.model.specs.Plan.{extentWords}
 use Rattle.request.specs.Judge.{requestIn}
-use Rattle.request.proofs.Verdict.{verdict-head, verdict-empty, empty-extents, judged-refused, judged-start}
+use Rattle.request.proofs.Steps.{operation-passed, operation-refused}
+use Rattle.request.proofs.Verdict.{operation-verdict, empty-started, empty-extents, judged-refused, judged-start}
 use Rattle.request.proofs.judge.Statement.{statement}
 use Rattle.request.proofs.judge.Tie as tie
 
-head-reason-requires : tie.Need-head-reason-requires
-head-reason-requires c κs = search needs
+operation-reason-requires : tie.Need-operation-reason-requires
+operation-reason-requires c κs = search needs
 
-refuse-requires : tie.Need-refuse-requires
-refuse-requires c κs = search needs
+clear-from-requires : tie.Need-clear-from-requires
+clear-from-requires c κs = search needs
+
+status-of-requires : tie.Need-status-of-requires
+status-of-requires c κs = search needs
 
 same-length : tie.Need-same-length
 same-length c = search needs
 
 returns : tie.Need-returns
+unfolding extentWords
 returns c =
-    let done = c .before .before in
-    let a = done .before .before .before .before .before .before .args in
-    let head = done .before .before .before .head-reason .ensures in
-    judged-refused (a .params) (a .grants .now) (a .slot .now) _ _ _
-    (verdict-head (a .params) (a .grants .now) (requestIn (a .params) (a .slot .now)) (λ z. done .before .before .if1 .taken (head ∙ z)))
-    (rw head at (done .refuse .ensures .0))
-    (done .refuse .ensures .1)
+    let cleared = c .before .before .before in
+    let test = cleared .before .before in
+    let a = test .before .before .before .before .args in
+    let r = requestIn (a .params) (a .slot .now) in
+    let reason = test .before .operation-reason .ensures in
+    judged-refused (a .params) (a .grants .now) (a .slot .now) _ _ _ _
+    (operation-verdict (a .params) (a .grants .now) r _ _ (operation-refused (a .params) r (λ z. test .if1 .taken (reason ∙ z))))
+    (rw (c .status-of .ensures, reason))
+    (cleared .clear-from .ensures)
 
 element-copy-out-if2 : tie.Need-element-copy-out-if2
 element-copy-out-if2 c = search needs
@@ -58,14 +65,15 @@ returns-3 c =
     let done = c .before .before in
     let a = done .before .before .before .before .before .before .before .before .before .before .before .args in
     let r = requestIn (a .params) (a .slot .now) in
-    let head = sym (done .before .before .before .before .before .before .before .before .head-reason .ensures) ∙ done .before .before .before .before .before .before .before .if1 .left in
+    let reason = sym (done .before .before .before .before .before .before .before .before .operation-reason .ensures) ∙ done .before .before .before .before .before .before .before .if1 .left in
+    let passed = operation-passed (a .params) r reason in
     let other = done .before .before .before .before .before .if2 .left in
     let n = done .before .before .before .if3 .taken in
     let none : r .segments ≡ [] = rw n in
     judged-start (a .params) (a .grants .now) (a .slot .now) _ _ _
-    (verdict-empty (a .params) (a .grants .now) r head other n none)
+    (empty-started (a .params) (a .grants .now) r passed other n none)
     (done .start-empty .ensures .0)
-    (done .start-empty .ensures .1 ∙ ap (extentWords 11) (sym (empty-extents (a .params) (a .grants .now) r head other n none)))
+    (done .start-empty .ensures .1 ∙ ap (extentWords 11) (sym (empty-extents (a .params) (a .grants .now) r passed other n none)))
 
 data-requires : tie.Need-data-requires
 data-requires c κs = search needs
@@ -80,8 +88,9 @@ pub judge-spec : {M : Type 1} → statement M
 judge-spec =
     tie.close
     (tie.spec
-    head-reason-requires
-    refuse-requires
+    operation-reason-requires
+    clear-from-requires
+    status-of-requires
     same-length
     returns
     element-copy-out-if2

@@ -4,9 +4,6 @@ use Rattle.backend.proofs.Completions.{released}
 use Rattle.backend.proofs.completion.release.Statement.{statement}
 use Rattle.backend.proofs.completion.release.Tie as tie
 
-known-requires : tie.Need-known-requires
-known-requires c κs = search needs
-
 free-tag-requires : tie.Need-free-tag-requires
 free-tag-requires c κs = search needs
 
@@ -28,19 +25,19 @@ set-busy-marks-requires c κs = search needs
 returns : tie.Need-returns
 returns c =
     let cleared = c .before in
-    let produced = cleared .before .before in
-    let added = produced .before in
+    let gave = cleared .before .before in
+    let added = gave .before in
     let tagged = added .before .before in
-    let known = tagged .before .before .before in
-    let a = known .before .before .args in
-    rw (c .set-busy-marks .ensures, cleared .clear-mark .ensures, produced .set-produced .ensures, added .next-index .ensures, tagged .set-tag .ensures, tagged .before .free-tag .ensures)
-    (released (a .memory .now) (known .known .ensures) (a .k) (a .t) (a .p) (known .before .before .pre))
+    let zero = tagged .before in
+    let start = zero .before .before in
+    let a = start .args in
+    released (a .k) (a .t) (added .next-index .result) (cleared .clear-mark .result) (a .p) (start .pre .read) (added .next-index .ensures) (cleared .clear-mark .ensures)
+    (rw (← zero .free-tag .ensures) (tagged .set-tag .ensures)) (gave .set-produced .ensures) (c .set-busy-marks .ensures)
 
 pub release-spec : {M : Type 1} → statement M
 release-spec =
     tie.close
     (tie.spec
-    known-requires
     free-tag-requires
     set-tag-requires
     next-index-requires

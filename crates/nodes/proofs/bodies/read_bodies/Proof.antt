@@ -38,15 +38,15 @@ enum-known-body c = search needs
 enum-told : tie.Need-enum-told Inv-loop μ-loop
 enum-told c = search needs
 
-refusal-of-requires : tie.Need-refusal-of-requires Inv-loop μ-loop
-refusal-of-requires c κs = search needs
+fault-of-requires : tie.Need-fault-of-requires Inv-loop μ-loop
+fault-of-requires c κs = search needs
 
 returns : tie.Need-returns Inv-loop μ-loop
 returns c =
     let l = c .before .before .before .before .before .loop in
     let s = c .before .before .before .before .before .before .before .before .args .sheet .now in
     let g = c .before .enum-told .given in
-    rw (c .refusal-of .ensures, g .1)
+    rw (c .fault-of .ensures, g .1)
     (walked-stop s (l .values) (l .at) (l .i) (l .inv) (omega arith) (g .0 .0) (rw (← c .before .before .before .body-at .ensures) (g .1)))
 
 node-at-requires : tie.Need-node-at-requires Inv-loop μ-loop
@@ -106,7 +106,7 @@ read-bodies-spec =
     body-at-requires
     enum-known-body
     enum-told
-    refusal-of-requires
+    fault-of-requires
     returns
     node-at-requires
     mul-values

@@ -1,7 +1,7 @@
 -- `nodes::text::is_allowed` meets its contract, a test at a time. Assumes nothing.
 use borrow.Author.Needs.{needs}
 use borrow.Author.Tests.{eq-eqb, ne-eqb}
-use Rattle.nodes.specs.Text.{isAllowed}
+use Rattle.model.specs.NodeSheet.{isAllowed}
 use Rattle.nodes.proofs.text.is_allowed.Statement.{statement}
 use Rattle.nodes.proofs.text.is_allowed.Tie as tie
 

@@ -2,9 +2,7 @@
 use borrow.Author.Needs.{needs}
 use mathlib.Core.Path.{_∙_}
 use native.Mathlib.Omega.{arith}
-use Rattle.model.specs.NodeSheet.{modeBody, featureBody}
-use Rattle.nodes.proofs.Texts.{body-mode, body-feature, body-protocol, body-count}
-use Rattle.model.specs.NodeSheet.{modeBody, featureBody}
+use Rattle.nodes.proofs.Texts.{body-mode, body-feature, body-protocol, body-number}
 use Rattle.nodes.proofs.text.read_body.Statement.{statement}
 use Rattle.nodes.proofs.text.read_body.Tie as tie
 
@@ -18,7 +16,6 @@ choice-body-requires : tie.Need-choice-body-requires
 choice-body-requires c κs = search needs
 
 returns : tie.Need-returns
-unfolding modeBody
 returns c =
     let a = c .before .before .before .before .before .args in
     c .choice-body .ensures ∙ body-mode (a .node) (a .text .now) (omega arith)
@@ -33,7 +30,6 @@ choice-body-requires-2 : tie.Need-choice-body-requires-2
 choice-body-requires-2 c κs = search needs
 
 returns-2 : tie.Need-returns-2
-unfolding featureBody
 returns-2 c =
     let a = c .before .before .before .before .before .before .args in
     c .choice-body2 .ensures ∙ body-feature (a .node) (a .text .now) (λ e. omega arith) (omega arith)
@@ -52,7 +48,7 @@ number-body-requires c κs = search needs
 returns-4 : tie.Need-returns-4
 returns-4 c =
     let a = c .before .before .before .before .before .args in
-    c .number-body .ensures ∙ body-count (a .node) (a .text .now) (omega arith) (λ e. omega arith)
+    c .number-body .ensures ∙ body-number (a .node) (a .text .now) (omega arith) (λ e. omega arith)
 
 pub read-body-spec : {M : Type 1} → statement M
 read-body-spec =

@@ -5,16 +5,19 @@ use Rattle.replay.proofs.output.extents.Statement.{statement}
 use Rattle.replay.proofs.output.extents.Tie as tie
 
 abbrev Inv-loop : tie.InvT-loop
-Inv-loop words n i₀ t4 i = Unit {0}
+Inv-loop answer n i₀ t4 i = Unit {0}
 
 abbrev μ-loop : tie.MeasureT-loop
-μ-loop words n i₀ t4 i = 44 - i
+μ-loop answer n i₀ t4 i = 44 - i
 
 loop-holds : tie.Need-loop-holds Inv-loop μ-loop
 loop-holds c = search needs
 
 mul-if1 : tie.Need-mul-if1 Inv-loop μ-loop
 mul-if1 c = search needs
+
+add-if2 : tie.Need-add-if2 Inv-loop μ-loop
+add-if2 c = search needs
 
 mul-if2 : tie.Need-mul-if2 Inv-loop μ-loop
 mul-if2 c = search needs
@@ -27,6 +30,9 @@ slice-aggregate-text c = search needs
 
 text-requires : tie.Need-text-requires Inv-loop μ-loop
 text-requires c κs = search needs
+
+add-word : tie.Need-add-word Inv-loop μ-loop
+add-word c = search needs
 
 mul-word : tie.Need-mul-word Inv-loop μ-loop
 mul-word c = search needs
@@ -57,10 +63,12 @@ extents-spec =
     μ-loop
     loop-holds
     mul-if1
+    add-if2
     mul-if2
     element-copy-out-if2
     slice-aggregate-text
     text-requires
+    add-word
     mul-word
     element-copy-out-word
     word-requires

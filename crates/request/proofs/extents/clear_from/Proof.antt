@@ -2,12 +2,12 @@
 use borrow.Author.Needs.{needs}
 use mathlib.Core.Path.{_≡_, sym, ap, _∙_}
 use mathlib.Core.List.{[], _∷_, _++_, append-nil}
-use Prim.Native.Nat.{_+_, _-_, _*_, _≤_}
+use Prim.Native.Nat.{_-_, _*_, _≤_}
 use native.Mathlib.Omega.{arith}
 use lib.ListN.{length, take}
 use lib.Seq.{take-all, length-sets}
 use Rattle.model.specs.Plan.{extentWords}
-use Rattle.request.proofs.Laws.{clear-more}
+use Rattle.request.proofs.Words.{clear-more}
 use Rattle.request.proofs.extents.clear_from.Statement.{statement}
 use Rattle.request.proofs.extents.clear_from.Tie as tie
 

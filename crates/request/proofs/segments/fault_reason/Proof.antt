@@ -9,7 +9,7 @@ use native.Mathlib.Omega.{arith}
 use Rattle.model.specs.Base.{all}
 use Rattle.model.specs.Checks.{isWithinFrame}
 use Rattle.model.specs.Ring.{Layout, layoutOf, segmentOf, segmentsOf}
-use Rattle.request.proofs.Laws.{all-snoc, all-fails, segments-snoc, within-order, within-end, within-yes}
+use Rattle.request.proofs.Slot.{all-snoc, all-fails, segments-snoc, within-order, within-end, within-yes}
 use Rattle.request.proofs.segments.fault_reason.Statement.{statement}
 use Rattle.request.proofs.segments.fault_reason.Tie as tie
 

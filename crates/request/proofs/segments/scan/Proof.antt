@@ -2,22 +2,23 @@
 use borrow.Author.Needs.{needs}
 use borrow.Author.Tests.{not-true, not-false}
 use mathlib.Core.Path.{_≡_, sym, _∙_}
-use mathlib.Core.Bool.{false, true}
+use mathlib.Core.Bool.{false}
 use mathlib.Core.List.{List}
 use Prim.Native.Nat.{ℕ, _+_, _-_, _*_, _/_, _<_, _≤_}
 use native.Mathlib.Omega.{arith}
 use Rattle.model.specs.Checks.{sectorsIn}
 use Rattle.model.specs.Ring.{layoutOf, segmentOf, segmentsOf}
 use Rattle.model.specs.declared.Segment.{Segment}
-use Rattle.request.specs.Segments.{needFor, passes, Scanned}
-use Rattle.request.proofs.Laws.{within-order, within-end, within-yes, length-segments}
+use Rattle.request.specs.Segments.{passes, Scanned}
+use Rattle.request.specs.declared.segments.Counted.{Counted}
+use Rattle.request.proofs.Slot.{within-order, within-end, within-yes, length-segments}
 use Rattle.request.proofs.Scan.{Upto, upto-none, upto-next, upto-all, fails-within, fails-frame, fails-grant, fails-at, passes-yes}
 use Rattle.request.proofs.segments.scan.Statement.{statement}
 use Rattle.request.proofs.segments.scan.Tie as tie
 
 abbrev Inv-loop : tie.InvT-loop
 Inv-loop abi slot n grants operation start words₀ sector₀ place₀ words sector place =
-    (place ≤ 4 * n) × (place ≡ 4 * (place / 4)) × Upto (needFor operation) grants start (segmentsOf (place / 4) (layoutOf abi) slot 0) words sector
+    (place ≤ 4 * n) × (place ≡ 4 * (place / 4)) × Upto grants operation start (segmentsOf (place / 4) (layoutOf abi) slot 0) words sector
 
 abbrev μ-loop : tie.MeasureT-loop
 μ-loop abi slot n grants operation start words₀ sector₀ place₀ words sector place = 4 * n - place
@@ -26,7 +27,7 @@ loop-holds : tie.Need-loop-holds Inv-loop μ-loop
 unfolding segmentsOf
 loop-holds c =
     let a = c .before .before .args in
-    (omega arith, omega arith, upto-none (needFor (a .operation)) (a .grants .now) (a .start) (a .words .now) (omega arith) (omega arith))
+    (omega arith, omega arith, upto-none (a .grants .now) (a .operation) (a .start) (a .words .now) (omega arith) (omega arith))
 
 mul-loop : tie.Need-mul-loop Inv-loop μ-loop
 mul-loop c = search needs
@@ -67,10 +68,10 @@ at-segment : (g : tie.After-segments-at Inv-loop μ-loop)
 at-segment g = omega (arith, g .segments-at .ensures .0, g .before .before .loop .inv .1)
 
 -- where that segment does not pass, the whole does not
-fails : (g : tie.After-segments-at Inv-loop μ-loop) (words : List ℕ) → passes (needFor (entry g .args .operation)) (entry g .args .grants .now) (segment g) ≡ false
-    → Scanned (needFor (entry g .args .operation)) (entry g .args .grants .now) (entry g .args .start) (segmentsOf (entry g .args .n) (layoutOf (entry g .args .abi)) (entry g .args .slot .now) 0) 0 words
+fails : (g : tie.After-segments-at Inv-loop μ-loop) (words : List ℕ) → passes (entry g .args .grants .now) (entry g .args .operation) (segment g) ≡ false
+    → Scanned (entry g .args .grants .now) (entry g .args .operation) (entry g .args .start) (segmentsOf (entry g .args .n) (layoutOf (entry g .args .abi)) (entry g .args .slot .now) 0) Counted.Fault words
 fails g words =
-    fails-at (needFor (entry g .args .operation)) (entry g .args .grants .now) (entry g .args .start) (layoutOf (entry g .args .abi)) (entry g .args .slot .now)
+    fails-at (entry g .args .grants .now) (entry g .args .operation) (entry g .args .start) (layoutOf (entry g .args .abi)) (entry g .args .slot .now)
     (entry g .args .n) (g .before .before .loop .place / 4) words (omega (arith, g .before .loop-test .taken, g .before .before .loop .inv .1))
 
 same-length : tie.Need-same-length Inv-loop μ-loop
@@ -100,7 +101,7 @@ returns-3 c =
     let u = c .before .before .before .before .before in
     let g = u .before .before in
     let frame = rw (at-segment g) at (u .u32-at .ensures) in
-    fails g _ (fails-frame _ (entry g .args .grants .now) (segment g) (rw frame at (c .if3 .taken)))
+    fails g _ (fails-frame (entry g .args .grants .now) _ (segment g) (rw frame at (c .if3 .taken)))
 
 cast-serves : tie.Need-cast-serves Inv-loop μ-loop
 cast-serves c = search needs
@@ -120,7 +121,7 @@ returns-4 c =
     let u = c .before .before .before .before .before .before .before .before in
     let g = u .before .before in
     let frame = rw (at-segment g) at (u .u32-at .ensures) in
-    fails g _ (fails-grant _ (entry g .args .grants .now) (segment g) (rw frame at (sym (c .before .serves .ensures) ∙ not-true _ (c .if4 .taken))))
+    fails g _ (fails-grant (entry g .args .grants .now) _ (segment g) (rw frame at (sym (c .before .serves .ensures) ∙ not-true _ (c .if4 .taken))))
 
 add-wide : tie.Need-add-wide Inv-loop μ-loop
 add-wide c = search needs
@@ -175,8 +176,8 @@ loop-again c =
       omega (arith, more, here),
       omega (arith, next, here),
       rw (c .wrapping-add-u64 .ensures, put .put .ensures, next)
-          (rw (← here) at (upto-next (needFor (a .operation)) (a .grants .now) (a .start) (layoutOf (a .abi)) (a .slot .now) (l .place / 4) (l .words) (l .sector) (l .inv .2) few
-          (passes-yes (needFor (a .operation)) (a .grants .now) s (within-yes s low high) near right) _ _ _ frame first len)),
+          (rw (← here) at (upto-next (a .grants .now) (a .operation) (a .start) (layoutOf (a .abi)) (a .slot .now) (l .place / 4) (l .words) (l .sector) (l .inv .2) few
+          (passes-yes (a .grants .now) (a .operation) s (within-yes s low high) near right) _ _ _ frame first len)),
     )
 
 wrapping-sub-u64-requires : tie.Need-wrapping-sub-u64-requires Inv-loop μ-loop
@@ -190,7 +191,7 @@ returns-5 c =
     let a = c .before .before .before .before .before .args in
     let l = c .before .before .loop in
     let e : l .place / 4 ≡ a .n = omega arith in
-    upto-all (needFor (a .operation)) (a .grants .now) (a .start) (segmentsOf (a .n) (layoutOf (a .abi)) (a .slot .now) 0) (l .words) (l .sector) (c .wrapping-sub-u64 .result)
+    upto-all (a .grants .now) (a .operation) (a .start) (segmentsOf (a .n) (layoutOf (a .abi)) (a .slot .now) 0) (l .words) (l .sector) (c .wrapping-sub-u64 .result)
     (rw e at (l .inv .2)) (omega (arith, length-segments (a .n) (layoutOf (a .abi)) (a .slot .now) 0)) (omega arith) (c .wrapping-sub-u64 .ensures) (omega arith)
 
 pub scan-spec : {M : Type 1} → statement M

@@ -1,0 +1,218 @@
+-- Every call has an outcome that keeps its promise: each change that an event makes of the backend can be made of memory. Assumes nothing but that lent bytes are
+-- bytes.
+use mathlib.Core.Path.{_≡_, refl}
+use mathlib.Core.Bool.{not, _&&_}
+use mathlib.Core.List.{List, []}
+use Prim.Native.Nat.{ℕ, _+_, _^_, _<_}
+use native.Mathlib.Nat.{mod-lt}
+use native.Mathlib.Omega.{arith}
+use lib.Dec.{ltb}
+use lib.IntN.{ℤ}
+use Rattle.model.specs.Backend.{Backend, viewOf, withPort, withTag, withPointer, brokenPort, startedPort, answeredPort, finishedPort, does, next}
+use Rattle.model.specs.Buffers.{ports, grantsOf, areRings, areGrants}
+use Rattle.model.specs.Calls.{Call, Open, Close, Turn, Complete, TurnEffect, Effect}
+use Rattle.model.specs.Complete.{expectedOf}
+use Rattle.model.specs.Deeds.{portAfter, paramsIn, deeds}
+use Rattle.model.specs.Demand.{IsBytes, LendsBytes}
+use Rattle.model.specs.NodeSheet.{sheetOf}
+use Rattle.model.specs.Plan.{verdictOf}
+use Rattle.model.specs.Port.{View, after, inFlightOf, closedPort, openPort, zeroTag}
+use Rattle.model.specs.Ring.{ringFor, ringOf}
+use Rattle.model.specs.Rules.{dueTurn, effectDue}
+use Rattle.model.specs.Turn.{ringAt, serialOf, pendingAt, requestAt, idle, settled, overran, servedBy, passedOver, turned}
+use Rattle.model.specs.declared.Completed.{Completed}
+use Rattle.model.specs.declared.Pending.{Pending}
+use Rattle.model.specs.declared.Port.{Port}
+use Rattle.model.specs.declared.PortId.{PortId}
+use Rattle.model.specs.declared.Reply.{Reply}
+use Rattle.model.specs.declared.Serial.{Serial}
+use Rattle.model.specs.declared.Status.{Status}
+use Rattle.model.specs.declared.Tag.{Tag}
+use Rattle.model.specs.declared.TagId.{TagId}
+use Rattle.model.specs.declared.Turned.{Turned}
+use Rattle.model.specs.declared.Verdict.{Verdict}
+use Rattle.model.proofs.Base.{by-cond}
+use Rattle.model.proofs.DueFacts.{Chosen, Started, Finished, OpenFacts, CloseFacts, TurnFacts, CompleteFacts, facts, names-one, waits-room}
+use Rattle.model.proofs.Page.{request-fits, slot-bytes}
+use Rattle.model.proofs.Ring.{fits}
+use Rattle.model.proofs.View.{view-consumed}
+use Rattle.marks.proofs.Marks.{lowest-free, lowest-free-lt}
+use Rattle.request.proofs.Expected.{expected-fits}
+use Rattle.memory.specs.Backend.{backendOf, Exact, Becomes}
+use Rattle.memory.specs.Layout.{tags}
+use Rattle.memory.specs.Promise.{Promised}
+use Rattle.memory.proofs.Backend.{backend-ranged, size-tags}
+use Rattle.memory.proofs.Changes.{unchanged, stays, Some, some-port, some-tag, some-pointer, some-then, promised}
+use Rattle.memory.proofs.Lens.{Ranged, RangedTag}
+
+-- ---- a plan's expected result fits its word
+
+abbrev FitsPlan : Turned → Type 0
+FitsPlan (Turned.Refused n) = Unit
+FitsPlan Turned.Idle = Unit
+FitsPlan (Turned.Overrun p) = Unit
+FitsPlan (Turned.Started p t s plan) = expectedOf plan < 2 ^ 32
+FitsPlan (Turned.Answered p n z y) = Unit
+
+abbrev FitsIn : TurnEffect → Type 0
+FitsIn e = FitsPlan (e .answer)
+
+settled-fits : (v : View) (rings grants : List ℕ) (k : ℕ) (x : Verdict) → verdictOf (v .params k) (grantsOf grants k) (requestAt v rings k) ≡ x
+    → FitsIn (settled v rings k (requestAt v rings k) x)
+unfolding settled requestAt ringFor
+settled-fits v rings grants k (Verdict.Refused n s) e = tt
+settled-fits v rings grants k (Verdict.Start plan) e = expected-fits (v .params k) (grantsOf grants k) _ plan e
+
+served-fits : (v : View) (rings grants : List ℕ) (k : ℕ) (x : Pending) → FitsIn (servedBy v rings grants k x)
+unfolding servedBy idle overran
+served-fits v rings grants k Pending.Nothing = tt
+served-fits v rings grants k Pending.Waits = settled-fits v rings grants k _ refl
+served-fits v rings grants k Pending.Overrun = tt
+
+turn-fits : (v : View) (rings grants words : List ℕ) → FitsIn (dueTurn v rings grants words)
+unfolding dueTurn turned idle
+turn-fits v rings grants words =
+    by-cond FitsIn (not (areRings rings && areGrants grants)) _ _ (λ _. tt) (λ _.
+    by-cond FitsIn (ltb (passedOver v rings) ports) _ _ (λ _. served-fits v rings grants _ _) (λ _. tt))
+
+-- ---- what an event leaves
+
+record Leaves (m : List ℕ) (c : Call) (e : Effect c) : Type 0 where
+  left : List ℕ
+  becomes : Becomes m (next (backendOf m) (record { call = c; effect = e })) left
+  still : deeds c e ≡ [] → left ≡ m
+
+-- a deed was done
+one-deed : {m : List ℕ} {c : Call} (e : Effect c) (o : Some m (next (backendOf m) (record { call = c; effect = e }))) → (deeds c e ≡ [] → ⊥) → Leaves m c e
+one-deed e o d = record { left = o .left; becomes = o .becomes; still = λ z. absurd (d z) }
+
+module _ (m : List ℕ) (x : Exact m) where
+  -- no deed, and the pointer where it was
+  none : {c : Call} (e : Effect c) → Becomes m (next (backendOf m) (record { call = c; effect = e })) m → Leaves m c e
+  none e b = record { left = m; becomes = b; still = λ _. refl }
+
+  -- a port put, and then the pointer
+  pointed : (b : Backend) → Some m b → (k : ℕ) → Some m (withPointer b (portAfter k))
+  pointed b o k = some-then (λ (c : Backend). withPointer c (portAfter k)) x o (λ l e. some-pointer l e (portAfter k) (mod-lt (k + 1) (omega arith)))
+
+  leaves-open : (p : PortId) (sheet : List ℕ) (e : Reply) → OpenFacts (viewOf (backendOf m)) p e → Leaves m (Open p sheet) e
+  unfolding next does withPort withPointer
+  leaves-open p sheet (Reply.Refused i) f = none (Reply.Refused i) (unchanged m)
+  leaves-open p sheet Reply.Done f =
+      one-deed Reply.Done (some-port m x (p .0) (f .0) (openPort (paramsIn (sheetOf sheet))) (record { consumed = omega arith; produced = omega arith })) (λ z.
+      let w : _≡_ {A = ℕ} 0 1 = cc in omega arith)
+
+  leaves-close : (p : PortId) (e : Reply) → CloseFacts (viewOf (backendOf m)) p e → Leaves m (Close p) e
+  unfolding next does withPort withPointer
+  leaves-close p (Reply.Refused i) f = none (Reply.Refused i) (unchanged m)
+  leaves-close p Reply.Done f =
+      one-deed Reply.Done (some-port m x (p .0) (f .0) closedPort (record { consumed = omega arith; produced = omega arith })) (λ z.
+      let w : _≡_ {A = ℕ} 0 1 = cc in omega arith)
+
+  chosen-lt : (rings : List ℕ) (k : ℕ) → Chosen (viewOf (backendOf m)) rings k → k < ports
+  chosen-lt rings k f = omega (arith, f .place)
+
+  -- a started request has room, so its tag is one that there is
+  module _ (rings : List ℕ) (k t s : ℕ) (f : Started (viewOf (backendOf m)) rings k t s) where
+    few : inFlightOf (backendOf m .port k .busy) < ringOf (backendOf m .port k .params) .size
+    unfolding pendingAt viewOf
+    few = waits-room _ _ _ (f .waits)
+
+    tag-lt : t < tags
+    unfolding viewOf
+    tag-lt =
+        let p = backendOf m .port k in
+        let low = lowest-free (ringOf (p .params) .size) p (λ u. backendOf m .tag k u) (fits (p .params) .marked) few in
+        let l = lowest-free-lt (ringOf (p .params) .size) (p .busy) (fits (p .params) .marked) few in
+        omega (arith, l, low, f .lowest, size-tags (p .params))
+
+    serial-fits : s < 2 ^ 32
+    serial-fits = rw (f .serial, view-consumed (backendOf m) k) (backend-ranged m k .consumed)
+
+  operation-fits : (rings : List ℕ) (k : ℕ) → IsBytes rings → requestAt (viewOf (backendOf m)) rings k .pair .operation < 2 ^ 8
+  unfolding requestAt
+  operation-fits rings k y = request-fits _ _ (slot-bytes (ringAt (viewOf (backendOf m)) k) rings k _ y) .1
+
+  -- a completed request's tag is one of its ring's
+  named-lt : (rings pages : List ℕ) (p : PortId) (t : TagId) (s : Serial) (z : Status) → Finished (viewOf (backendOf m)) rings pages (p .0) t s z → t .0 < tags
+  named-lt rings pages p t s z f = omega (arith, names-one _ t s _ (f .named) .small, size-tags (viewOf (backendOf m) .params (p .0)))
+
+  index-lt : (i : ℕ) → after i < 2 ^ 32
+  index-lt i = mod-lt (i + 1) (omega arith)
+
+  -- a tag put, then its port
+  tagged : (k t : ℕ) → k < ports → t < tags → (y : Tag) → RangedTag y → (q : Port) → Ranged q → Some m (withPort (withTag (backendOf m) k t y) k q)
+  tagged k t h l y r q s = some-then (λ (b : Backend). withPort b k q) x (some-tag m x k h t l y r) (λ o e. some-port o e k h q s)
+
+  leaves-turn : (rings grants words pages filled : List ℕ) (r : Turned) → IsBytes rings → TurnFacts (viewOf (backendOf m)) rings pages r → FitsPlan r
+      → Leaves m (Turn rings grants words) (record { rings = pages; words = filled; answer = r })
+  unfolding next does
+  leaves-turn rings grants words pages filled (Turned.Refused i) y f o = none (record { rings = pages; words = filled; answer = Turned.Refused i }) (stays m)
+  leaves-turn rings grants words pages filled Turned.Idle y f o = none (record { rings = pages; words = filled; answer = Turned.Idle }) (stays m)
+  leaves-turn rings grants words pages filled (Turned.Overrun p) y f o =
+      let k = p .0 in
+      let q = backendOf m .port k in
+      let h = chosen-lt rings k f in
+      one-deed (record { rings = pages; words = filled; answer = Turned.Overrun p })
+      (pointed _ (some-port m x k h (brokenPort q) (record { consumed = backend-ranged m k .consumed; produced = backend-ranged m k .produced })) k) (λ z.
+      let w : _≡_ {A = ℕ} 0 1 = cc in omega arith)
+  leaves-turn rings grants words pages filled (Turned.Answered p i z b) y f o =
+      let k = p .0 in
+      let q = backendOf m .port k in
+      let h = chosen-lt rings k (f .choice) in
+      one-deed (record { rings = pages; words = filled; answer = Turned.Answered p i z b })
+      (pointed _ (some-port m x k h (answeredPort q) (record { consumed = index-lt (q .consumed); produced = index-lt (q .produced) })) k) (λ e.
+      let w : _≡_ {A = ℕ} 0 1 = cc in omega arith)
+  leaves-turn rings grants words pages filled (Turned.Started p t s plan) y f o =
+      let k = p .0 in
+      let q = backendOf m .port k in
+      let h = chosen-lt rings k (f .choice) in
+      let pair = requestAt (viewOf (backendOf m)) rings k .pair in
+      let x : Tag = record { pair = pair; serial = serialOf (s .0); expected = expectedOf plan } in
+      let r : RangedTag x = record { operation = operation-fits rings k y; serial = serial-fits rings k (t .0) (s .0) f; expected = o } in
+      one-deed (record { rings = pages; words = filled; answer = Turned.Started p t s plan })
+      (pointed _
+      (tagged k (t .0) h (tag-lt rings k (t .0) (s .0) f) x r (startedPort q (t .0))
+      (record { consumed = index-lt (q .consumed); produced = backend-ranged m k .produced }))
+      k) (λ z. let w : _≡_ {A = ℕ} 0 1 = cc in omega arith)
+
+  leaves-complete : (rings pages : List ℕ) (p : PortId) (t : TagId) (s : Serial) (result : ℤ) (r : Completed)
+      → CompleteFacts (viewOf (backendOf m)) rings pages p t s r
+      → Leaves m (Complete rings p t s result) (record { rings = pages; answer = r })
+  unfolding next does withPort withTag withPointer
+  leaves-complete rings pages p t s result (Completed.Refused i) f = none (record { rings = pages; answer = Completed.Refused i }) (unchanged m)
+  leaves-complete rings pages p t s result (Completed.Done q z b) f =
+      let k = p .0 in
+      let o = backendOf m .port k in
+      one-deed (record { rings = pages; answer = Completed.Done q z b })
+      (tagged k (t .0) (f .small) (named-lt rings pages p t s z f) zeroTag (record { operation = omega arith; serial = omega arith; expected = omega arith })
+      (finishedPort o (t .0)) (record { consumed = backend-ranged m k .consumed; produced = index-lt (o .produced) })) (λ e.
+      let w : _≡_ {A = ℕ} 0 1 = cc in omega arith)
+
+-- ---- every call
+
+-- a memory that keeps what a call promises, with the effect due
+pub record CallOutcome (m : List ℕ) (c : Call) : Type 0 where
+  pub left : List ℕ
+  pub promised : Promised m c (effectDue (viewOf (backendOf m)) c) left
+
+pub outcome : (m : List ℕ) → Exact m → (c : Call) → LendsBytes c → CallOutcome m c
+unfolding effectDue
+outcome m x (Open p sheet) y =
+    let e = effectDue (viewOf (backendOf m)) (Open p sheet) in
+    let l = leaves-open m x p sheet e (facts (viewOf (backendOf m)) (Open p sheet)) in
+    record { left = l .left; promised = promised m (Open p sheet) e (l .left) refl (l .becomes) (l .still) }
+outcome m x (Close p) y =
+    let e = effectDue (viewOf (backendOf m)) (Close p) in
+    let l = leaves-close m x p e (facts (viewOf (backendOf m)) (Close p)) in
+    record { left = l .left; promised = promised m (Close p) e (l .left) refl (l .becomes) (l .still) }
+outcome m x (Turn rings grants words) y =
+    let c = Turn rings grants words in
+    let e = effectDue (viewOf (backendOf m)) c in
+    let l = leaves-turn m x rings grants words (e .rings) (e .words) (e .answer) y (facts (viewOf (backendOf m)) c) (turn-fits (viewOf (backendOf m)) rings grants words) in
+    record { left = l .left; promised = promised m c e (l .left) refl (l .becomes) (l .still) }
+outcome m x (Complete rings p t s result) y =
+    let c = Complete rings p t s result in
+    let e = effectDue (viewOf (backendOf m)) c in
+    let l = leaves-complete m x rings (e .rings) p t s result (e .answer) (facts (viewOf (backendOf m)) c) in
+    record { left = l .left; promised = promised m c e (l .left) refl (l .becomes) (l .still) }

@@ -1,0 +1,105 @@
+-- An answer that is due is the one that its number and its words spell: decoding gives back what was encoded. Assumes nothing.
+use mathlib.Core.Path.{_≡_, refl}
+use mathlib.Core.Bool.{Bool, true, false, not, _&&_}
+use mathlib.Core.List.{List, [], _∷_}
+use Prim.Native.Nat.{ℕ, zero, suc, _*_}
+use native.Mathlib.Omega.{arith}
+use lib.Dec.{ltb}
+use lib.ListN.{length, replicate}
+use lib.Seq.{take-at}
+use Rattle.wire.specs.Part.{part}
+use Rattle.model.specs.Answers.{replyNumber, turnedNumber, turnedWords, completedNumber, completedWords, magnitude, yesNo, extentsIn}
+use Rattle.model.specs.Buffers.{ports, areRings, areGrants}
+use Rattle.model.specs.Calls.{TurnEffect}
+use Rattle.model.specs.Plan.{Extent, extentWords, wordsBeside}
+use Rattle.model.specs.Port.{View}
+use Rattle.model.specs.Ring.{Request}
+use Rattle.model.specs.Rules.{dueTurn}
+use Rattle.model.specs.Turn.{idle, settled, overran, servedBy, passedOver, turned}
+use Rattle.model.specs.declared.Completed.{Completed}
+use Rattle.model.specs.declared.Pending.{Pending}
+use Rattle.model.specs.declared.Reply.{Reply}
+use Rattle.model.specs.declared.Status.{Status}
+use Rattle.model.specs.declared.Turned.{Turned}
+use Rattle.model.specs.declared.Verdict.{Verdict}
+use Rattle.model.proofs.Base.{by-cond}
+use Rattle.kernelharp.specs.Decode.{replyOf, statusSaid, saysYes, turnedOf, completedOf}
+use Rattle.kernelharp.specs.Promise.{turnAnswer, doneAnswer}
+use Rattle.kernelharp.proofs.Numbers.{NumberedReply, Numbered}
+
+-- ---- the answers out of numbers and words
+
+pub reply-decoded : (r : Reply) → NumberedReply r → replyOf (replyNumber r) ≡ r
+reply-decoded (Reply.Refused zero) h = absurd (h refl)
+reply-decoded (Reply.Refused (suc n)) h = refl
+reply-decoded Reply.Done h = refl
+
+yes-decoded : (b : Bool) → saysYes (yesNo b) ≡ b
+yes-decoded true = refl
+yes-decoded false = refl
+
+status-decoded : (s : Status) → statusSaid (magnitude s) ≡ s
+status-decoded Status.Okay = refl
+status-decoded Status.Error = refl
+status-decoded Status.NotSupported = refl
+
+pub completed-decoded : (r : Completed) (words : List ℕ) → Numbered r → (completedNumber r ≡ 0 → words ≡ doneAnswer (completedWords r))
+    → completedOf (completedNumber r) words ≡ r
+completed-decoded (Completed.Refused zero) words h w = absurd (h refl)
+completed-decoded (Completed.Refused (suc n)) words h w = refl
+completed-decoded (Completed.Done p z y) words h w = rw (w refl, status-decoded z, yes-decoded y)
+
+-- a refused turn has a number
+abbrev pub NumberedTurned : Turned → Type 0
+NumberedTurned (Turned.Refused n) = n ≡ 0 → ⊥
+NumberedTurned Turned.Idle = Unit
+NumberedTurned (Turned.Overrun p) = Unit
+NumberedTurned (Turned.Started p t s plan) = Unit
+NumberedTurned (Turned.Answered p n z y) = Unit
+
+pub turned-decoded : (r : Turned) (extents words : List ℕ) → NumberedTurned r → (turnedNumber r ≡ 0 → words ≡ turnAnswer (turnedWords r) extents)
+    → turnedOf (turnedNumber r) words ≡ r
+turned-decoded (Turned.Refused zero) extents words h w = absurd (h refl)
+turned-decoded (Turned.Refused (suc n)) extents words h w = refl
+turned-decoded Turned.Idle extents words h w = rw (w refl)
+turned-decoded (Turned.Overrun p) extents words h w = rw (w refl)
+turned-decoded (Turned.Started p t s plan) extents words h w = rw (w refl, yes-decoded (plan .secure))
+turned-decoded (Turned.Answered p n z y) extents words h w = rw (w refl, status-decoded z, yes-decoded y)
+
+-- ---- the extents out of the answer
+
+length-extents : (n : ℕ) (es : List Extent) → length (extentWords n es) ≡ 4 * n
+unfolding extentWords
+length-extents zero es = refl
+length-extents (suc n) [] = omega (arith, length-extents n [])
+length-extents (suc n) (e ∷ es) = omega (arith, length-extents n es)
+
+-- of a turn that was done there are 44 words
+abbrev pub Long : TurnEffect → Type 0
+Long e = turnedNumber (e .answer) ≡ 0 → length (e .words) ≡ 44
+
+settled-long : (v : View) (rings : List ℕ) (k : ℕ) (r : Request) (x : Verdict) → Long (settled v rings k r x)
+unfolding settled wordsBeside
+settled-long v rings k r (Verdict.Refused n s) = λ _. length-extents 11 []
+settled-long v rings k r (Verdict.Start plan) = λ _. length-extents 11 _
+
+served-long : (v : View) (rings grants : List ℕ) (k : ℕ) (x : Pending) → Long (servedBy v rings grants k x)
+unfolding servedBy idle overran
+served-long v rings grants k Pending.Nothing = λ _. length-extents 11 []
+served-long v rings grants k Pending.Waits = settled-long v rings k _ _
+served-long v rings grants k Pending.Overrun = λ _. length-extents 11 []
+
+pub turn-long : (v : View) (rings grants words : List ℕ) → Long (dueTurn v rings grants words)
+unfolding dueTurn turned idle
+turn-long v rings grants words =
+    by-cond Long (not (areRings rings && areGrants grants)) _ _ (λ _ z. absurd (omega arith)) (λ _.
+    by-cond Long (ltb (passedOver v rings) ports) _ _ (λ _. served-long v rings grants _ _) (λ _ _. length-extents 11 []))
+
+-- the extents in the middle of an answer
+pub extents-decoded : (r : Turned) (xs : List ℕ) → NumberedTurned r → turnedNumber r ≡ 0 → length xs ≡ 44 → extentsIn (turnAnswer (turnedWords r) xs) ≡ xs
+unfolding part
+extents-decoded (Turned.Refused n) xs h z l = absurd (h z)
+extents-decoded Turned.Idle xs h z l = take-at xs (replicate 4 0) 44 l
+extents-decoded (Turned.Overrun p) xs h z l = take-at xs (replicate 4 0) 44 l
+extents-decoded (Turned.Started p t s plan) xs h z l = take-at xs (replicate 4 0) 44 l
+extents-decoded (Turned.Answered p n w y) xs h z l = take-at xs (replicate 4 0) 44 l

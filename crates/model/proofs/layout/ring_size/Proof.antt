@@ -1,0 +1,13 @@
+-- `model::layout::ring_size` meets its contract: the size of a ring, by computation. Assumes nothing.
+use mathlib.Core.Path.{refl}
+use native.Mathlib.Omega.{arith}
+use Rattle.model.specs.Ring.{ringFor}
+use Rattle.model.proofs.layout.ring_size.Statement.{statement}
+use Rattle.model.proofs.layout.ring_size.Tie as tie
+
+returns : tie.Need-returns
+unfolding ringFor
+returns c = (refl, omega arith, omega arith)
+
+pub ring-size-spec : {M : Type 1} → statement M
+ring-size-spec = tie.close (tie.spec returns)

@@ -1,0 +1,14 @@
+// A request has at most so many segments, each within a frame, whose last sector is LAST_IN_FRAME.
+pub const MOST_SEGMENTS: u8 = 11;
+
+pub const LAST_IN_FRAME: u8 = 7;
+
+// Beside a plan there is a place for each segment's extent, of EXTENT words.
+pub const SEGMENTS: usize = MOST_SEGMENTS as usize;
+
+pub const EXTENT: usize = 4;
+
+pub const EXTENT_WORDS: usize = EXTENT * SEGMENTS;
+
+// The frames of a port that have a grant byte.
+pub const FRAMES: u32 = 1024;

@@ -1,0 +1,24 @@
+// The numbers that calls are refused with (rules 7.1 to 7.6).
+
+pub const WRONG_LENGTH: u32 = 1;
+
+pub const NO_PORT: u32 = 2;
+
+pub const NOT_CLOSED: u32 = 3;
+
+pub const IS_CLOSED: u32 = 4;
+
+pub const IN_FLIGHT: u32 = 5;
+
+pub const NOT_BUSY: u32 = 6;
+
+// Those of a node sheet.
+pub const SHEET_SHAPE: u32 = 11;
+
+pub const SHEET_NODES: u32 = 12;
+
+pub const SHEET_TEXT: u32 = 13;
+
+pub const SHEET_NUMBER: u32 = 14;
+
+pub const SHEET_MISSING: u32 = 15;

@@ -1,0 +1,66 @@
+-- A plan's expected result fits 32 bits. Assumes nothing.
+use borrow.Author.Tests.{ne-eqb, not-false}
+use mathlib.Core.Path.{_≡_}
+use mathlib.Core.Bool.{Bool, true, false, cond}
+use mathlib.Core.List.{List}
+use Prim.Native.Nat.{ℕ, _^_, _<_, _≤_}
+use native.Mathlib.Decide.{ℕ-discrete}
+use native.Mathlib.Omega.{arith}
+use lib.ListN.{length}
+use Rattle.model.specs.Ring.{layoutOf, requestOf}
+use Rattle.model.specs.Checks.{movesNothing, totalSectors, countOf, unknownOperation, wrongAmount, wrongSegment, operationChecks, segmentChecks, checks}
+use Rattle.model.specs.Complete.{expectedOf}
+use Rattle.model.specs.Plan.{planOf, verdictOf}
+use Rattle.model.specs.declared.Params.{Params}
+use Rattle.model.specs.declared.Plan.{Plan}
+use Rattle.model.specs.declared.Verdict.{Verdict}
+use Rattle.request.specs.Judge.{requestIn}
+use Rattle.request.proofs.Slot.{length-segments, within-total}
+use Rattle.request.proofs.Steps.{none-fails, all-passed}
+use Rattle.request.proofs.Verdict.{few-segments}
+
+module _ (q : Params) (grants slot : List ℕ) (plan : Plan) (e : verdictOf q grants (requestIn q slot) ≡ Verdict.Start plan) where
+  known : unknownOperation (requestIn q slot) ≡ false
+  unfolding checks operationChecks
+  known = none-fails (checks q grants (requestIn q slot)) 0 (all-passed q grants (requestIn q slot) plan e .0)
+
+  amount : wrongAmount (requestIn q slot) ≡ false
+  unfolding checks operationChecks
+  amount = none-fails (checks q grants (requestIn q slot)) 4 (all-passed q grants (requestIn q slot) plan e .0)
+
+  within : wrongSegment (requestIn q slot) ≡ false
+  unfolding checks operationChecks segmentChecks
+  within = none-fails (checks q grants (requestIn q slot)) 5 (all-passed q grants (requestIn q slot) plan e .0)
+
+  segment-count : length (requestIn q slot .segments) ≡ requestIn q slot .n
+  unfolding requestOf
+  segment-count = length-segments _ (layoutOf (q .abi)) slot 0
+
+  few-sectors : (requestIn q slot .pair .operation ≡ 5 → ⊥) → totalSectors (requestIn q slot .segments) ≤ 88
+  unfolding wrongSegment
+  few-sectors d =
+      let w = within-total (requestIn q slot .segments) (not-false _ (rw (ne-eqb (requestIn q slot .pair .operation) 5 d) at within)) in
+      omega (arith, w, segment-count, few-segments (requestIn q slot) known amount d)
+
+  few-counted : (requestIn q slot .pair .operation ≡ 5 → ⊥) → countOf (requestIn q slot) ≤ 88
+  unfolding countOf
+  few-counted d = rw (ne-eqb (requestIn q slot .pair .operation) 5 d) (at-most (movesNothing (requestIn q slot)))
+    where
+      at-most : (b : Bool) → cond b 0 (totalSectors (requestIn q slot .segments)) ≤ 88
+      at-most true = omega arith
+      at-most false = few-sectors d
+
+  small : expectedOf (planOf (requestIn q slot)) < 2 ^ 32
+  unfolding expectedOf planOf
+  small =
+      elim (ℕ-discrete (requestIn q slot .pair .operation) 5) [
+        | yes z ↦ rw z (omega arith)
+        | no d ↦
+            elim (ℕ-discrete (requestIn q slot .pair .operation) 3) [
+              | yes z ↦ rw z (omega arith)
+              | no f ↦ rw (ne-eqb (requestIn q slot .pair .operation) 3 f, ne-eqb (requestIn q slot .pair .operation) 5 d) (omega (arith, few-counted d))
+            ]
+      ]
+
+  pub expected-fits : expectedOf plan < 2 ^ 32
+  expected-fits = rw (all-passed q grants (requestIn q slot) plan e .1) at small

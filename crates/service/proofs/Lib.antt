@@ -1,4 +1,0 @@
-pub mod View
-pub mod Picks
-pub mod Serves
-pub mod Takes

@@ -1,0 +1,4 @@
+pub mod Search
+pub mod Serving
+pub mod Taking
+pub mod Ends

@@ -1,0 +1,157 @@
+-- Taking a request: the copied bytes are those of the slot that the rules name, and what a turn leaves is what the verdict on them makes due. Assumes nothing.
+use mathlib.Core.Path.{_≡_, refl, sym, ap, _∙_}
+use mathlib.Core.Bool.{Bool, true, false, not, _&&_}
+use mathlib.Core.List.{List}
+use Prim.Native.Nat.{ℕ, _+_, _-_, _*_, _≤_, _<_}
+use native.Mathlib.Decide.{decLt}
+use native.Mathlib.Omega.{arith}
+use lib.Dec.{leb, ltb}
+use borrow.Author.Tests.{eq-eqb, ne-eqb, le-leb, lt-leb, lt-ltb, le-ltb}
+use Rattle.wire.specs.Part.{part}
+use Rattle.wire.proofs.Part.{part-part}
+use Rattle.model.specs.Backend.{Backend, viewOf, does}
+use Rattle.model.specs.Buffers.{ports, pageShare, pageOf, grantsOf}
+use Rattle.model.specs.Plan.{verdictOf, noWords, wordsBeside}
+use Rattle.model.specs.Port.{isOpen, inFlightOf, distance, pendingOf}
+use Rattle.model.specs.Ring.{reqProd, slotBytes, layoutOf, ringFor, ringOf, slotAt, slotOf, requestOf}
+use Rattle.model.specs.Turn.{pendingAt, hasWork, requestAt, settled, overran, servedBy}
+use Rattle.model.proofs.Base.{clash}
+use Rattle.model.proofs.Ring.{fits-for, slot-place, slotAt-room}
+use Rattle.model.specs.declared.Abi.{Abi}
+use Rattle.model.specs.declared.Pair.{Pair}
+use Rattle.model.specs.declared.Pending.{Pending}
+use Rattle.model.specs.declared.Plan.{Plan}
+use Rattle.model.specs.declared.Port.{Port}
+use Rattle.model.specs.declared.Status.{Status}
+use Rattle.model.specs.declared.Turned.{Turned}
+use Rattle.model.specs.declared.Verdict.{Verdict}
+use Rattle.request.specs.Judge.{requestIn}
+use Rattle.memory.specs.Backend.{backendOf}
+use Rattle.turn.specs.Serve.{Reads, Room, Broke, Began, Declined, Turns, settledAt}
+use Rattle.model.proofs.View.{view-params, view-consumed}
+
+-- ---- the slot
+
+layout-of : (a : Abi) → ringFor a .layout ≡ layoutOf a
+unfolding ringFor
+layout-of a = refl
+
+-- the copied slot lies in its page
+pub slot-within : (a : Abi) (i : ℕ) → slotAt (ringFor a) i + slotBytes ≤ pageShare
+unfolding ringFor
+slot-within a i = rw (← slot-place a) at (slotAt-room (ringFor a) (fits-for a) i)
+
+-- the bytes copied are the slot's
+copied : (a : Abi) (rings : List ℕ) (k i : ℕ) → part slotBytes rings (pageShare * k + slotAt (ringFor a) i) ≡ slotOf (ringFor a) (pageOf rings k) i
+unfolding slotOf pageOf ringFor
+copied a rings k i = rw (← slot-place a) (sym (part-part slotBytes pageShare rings (pageShare * k) (slotAt (ringFor a) i) (slot-within a i)))
+
+-- the request that the rules judge is the one in the copy
+module _ (b : Backend) (rings : List ℕ) (k : ℕ) (p : Port) (o : Reads b k p) where
+  view-request : requestAt (viewOf b) rings k ≡ requestOf (ringOf (b .port k .params) .layout) (slotOf (ringOf (b .port k .params)) (pageOf rings k) (b .port k .consumed))
+  unfolding requestAt viewOf
+  view-request = refl
+
+  pub request-copied : requestIn (p .params) (part slotBytes rings (pageShare * k + slotAt (ringOf (p .params)) (p .consumed))) ≡ requestAt (viewOf b) rings k
+  request-copied = rw (copied (p .params .abi) rings k (p .consumed), view-request, ← o .read, layout-of (p .params .abi))
+
+  params-read : viewOf b .params k ≡ p .params
+  params-read = view-params b k ∙ ap (λ (q : Port). q .params) (sym (o .read))
+
+-- ---- what a distance says, from what the code tests
+
+module _ (size inFlight d : ℕ) where
+  nothing : d ≡ 0 → Pending.Nothing ≡ pendingOf size inFlight d
+  unfolding pendingOf
+  nothing e = rw (eq-eqb d 0 e)
+
+  waits : (d ≡ 0 → ⊥) → d + inFlight ≤ size → Pending.Waits ≡ pendingOf size inFlight d
+  unfolding pendingOf
+  waits n h = rw (ne-eqb d 0 n, le-leb d (size - inFlight) (omega arith))
+
+  overrun : (d ≡ 0 → ⊥) → size < d + inFlight → Pending.Overrun ≡ pendingOf size inFlight d
+  unfolding pendingOf
+  overrun n h = rw (ne-eqb d 0 n, lt-leb d (size - inFlight) (omega arith))
+
+-- the room beside the requests in flight, told from what a distance leaves
+pub beside : (size d f : ℕ) → d ≤ size → not (leb f (size - d)) ≡ ltb size (d + f)
+beside size d f h =
+    elim (decLt size (d + f)) [
+      | yes x ↦ rw (lt-leb f (size - d) (omega arith), lt-ltb size (d + f) x)
+      | no x ↦ rw (le-leb f (size - d) (omega arith), le-ltb size (d + f) (omega arith))
+    ]
+
+-- ---- a request taken, started or answered at once
+
+module _ (m rings grants : List ℕ) (k : ℕ) (p : Port) (o : Reads (backendOf m) k p) (slot : List ℕ)
+    (c : slot ≡ part slotBytes rings (pageShare * k + slotAt (ringOf (p .params)) (p .consumed))) (v : Verdict)
+    (j : v ≡ verdictOf (p .params) (grantsOf grants k) (requestIn (p .params) slot)) where
+  same-request : requestIn (p .params) slot ≡ requestAt (viewOf (backendOf m)) rings k
+  same-request = ap (requestIn (p .params)) c ∙ request-copied (backendOf m) rings k p o
+
+  settled-by : settledAt (backendOf m) rings grants k ≡ settled (viewOf (backendOf m)) rings k (requestIn (p .params) slot) v
+  settled-by = rw (params-read (backendOf m) rings k p o, ← same-request, ← j)
+
+  module _ (q : Pair) (e : q ≡ requestIn (p .params) slot .pair) (pages words : List ℕ) (w : words ≡ wordsBeside (requestIn (p .params) slot) v) (r : Turned)
+      (left : List ℕ) where
+    pub took-declined : (n : ℕ) (s : Status) → v ≡ Verdict.Refused n s → Declined m rings k q n s pages r left
+        → Turns m rings (settledAt (backendOf m) rings grants k) pages words r left
+    unfolding settled does
+    took-declined n s f d = record {
+      effect = rw (settled-by, d .rings, d .answer, w, f, e);
+      memory = rw (d .answer) (d .memory);
+    }
+
+    pub took-started : (plan : Plan) → v ≡ Verdict.Start plan → pages ≡ rings → Began m k p q plan r left
+        → Turns m rings (settledAt (backendOf m) rings grants k) pages words r left
+    unfolding settled does
+    took-started plan f u d = record {
+      effect = rw (settled-by, d .answer, w, f, u, params-read (backendOf m) rings k p o, view-consumed (backendOf m) k, ← o .read);
+      memory = rw (d .answer, ← same-request, ← e) (d .memory);
+    }
+
+-- ---- serving, by what req_prod says
+
+module _ (b : Backend) (rings grants : List ℕ) (k published : ℕ) (h : k < ports) (e : published ≡ reqProd (pageOf rings k)) (w : hasWork (viewOf b) rings k ≡ true) where
+  abbrev far : ℕ
+  far = distance published (b .port k .consumed)
+
+  pending-seen : pendingOf (ringOf (b .port k .params) .size) (inFlightOf (b .port k .busy)) far ≡ pendingAt (viewOf b) rings k
+  unfolding pendingAt viewOf
+  pending-seen = rw e
+
+  -- there is something to serve
+  pub some : far ≡ 0 → ⊥
+  unfolding hasWork
+  some z = none (isOpen (viewOf b .state k)) (rw (← nothing _ _ far z ∙ pending-seen) at w)
+    where
+      none : (t : Bool) → t && false ≡ true → ⊥
+      none true x = clash x refl
+      none false x = clash x refl
+
+  -- a request waits only where a tag is free
+  pub waits-room : far + inFlightOf (b .port k .busy) ≤ ringOf (b .port k .params) .size → Room b k (b .port k)
+  waits-room l = record { reads = record { port = h; read = refl }; room = omega (arith, some) }
+
+  pub waits-served : far + inFlightOf (b .port k .busy) ≤ ringOf (b .port k .params) .size
+      → settledAt b rings grants k ≡ servedBy (viewOf b) rings grants k (pendingAt (viewOf b) rings k)
+  unfolding servedBy
+  waits-served l = rw (← waits _ _ far some l ∙ pending-seen)
+
+pub overrun-served : (m rings grants : List ℕ) (k published : ℕ) (h : k < ports) (e : published ≡ reqProd (pageOf rings k))
+    (w : hasWork (viewOf (backendOf m)) rings k ≡ true) (pages words : List ℕ) (r : Turned) (left : List ℕ)
+    → ringOf (backendOf m .port k .params) .size < distance published (backendOf m .port k .consumed) + inFlightOf (backendOf m .port k .busy)
+    → pages ≡ rings → words ≡ noWords → Broke m k r left
+    → Turns m rings (servedBy (viewOf (backendOf m)) rings grants k (pendingAt (viewOf (backendOf m)) rings k)) pages words r left
+unfolding servedBy overran does
+overrun-served m rings grants k published h e w pages words r left l u x b = record {
+  effect =
+      rw (
+        ← overrun _ _ (distance published (backendOf m .port k .consumed)) (some (backendOf m) rings grants k published h e w) l
+            ∙ pending-seen (backendOf m) rings grants k published h e w,
+        b .answer,
+        x,
+        u,
+      );
+  memory = rw (b .answer) (b .memory);
+}

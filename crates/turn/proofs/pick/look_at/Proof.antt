@@ -1,0 +1,67 @@
+-- `turn::pick::look_at` meets its contract, by the state of the port. Assumes nothing.
+use borrow.Author.Needs.{needs}
+use native.Mathlib.Omega.{arith}
+use Rattle.memory.specs.Backend.{backendOf}
+use Rattle.memory.proofs.Backend.{backend-ranged}
+use Rattle.turn.proofs.Search.{look-shut, look-same, look-work}
+use Rattle.turn.proofs.pick.look_at.Statement.{statement}
+use Rattle.turn.proofs.pick.look_at.Tie as tie
+
+port-at-requires : tie.Need-port-at-requires
+port-at-requires c κs = search needs
+
+enum-told : tie.Need-enum-told
+enum-told c = search needs
+
+enum-told-2 : tie.Need-enum-told-2
+enum-told-2 c = search needs
+
+enum-told-3 : tie.Need-enum-told-3
+enum-told-3 c = search needs
+
+req-prod-requires : tie.Need-req-prod-requires
+req-prod-requires c κs = search needs
+
+returns : tie.Need-returns
+returns c =
+    let read = c .before .before in
+    let told = read .before in
+    let at = told .before .before in
+    let a = at .before .before .args in
+    look-same (backendOf (a .memory .now)) (a .rings .now) (a .k) (rw (← at .port-at .ensures, told .enum-told3 .given .1)) (rw (← read .req-prod .ensures) (omega arith))
+    (rw (← read .req-prod .ensures, ← at .port-at .ensures) (c .if1 .taken))
+
+returns-2 : tie.Need-returns-2
+returns-2 c =
+    let at = c .before .before in
+    let a = at .before .before .args in
+    look-shut (backendOf (a .memory .now)) (a .rings .now) (a .k) (rw (← at .port-at .ensures, c .enum-told .given .1))
+
+returns-3 : tie.Need-returns-3
+returns-3 c =
+    let at = c .before .before in
+    let a = at .before .before .args in
+    look-shut (backendOf (a .memory .now)) (a .rings .now) (a .k) (rw (← at .port-at .ensures, c .enum-told2 .given .1))
+
+returns-4 : tie.Need-returns-4
+returns-4 c =
+    let read = c .before .before in
+    let told = read .before in
+    let at = told .before .before in
+    let a = at .before .before .args in
+    rw (read .req-prod .ensures) (look-work (backendOf (a .memory .now)) (a .rings .now) (a .k) (rw (← at .port-at .ensures, told .enum-told3 .given .1)) (rw (← read .req-prod .ensures) (omega arith))
+    (backend-ranged (a .memory .now) (a .k) .consumed) (rw (← read .req-prod .ensures, ← at .port-at .ensures) (c .if1 .left)))
+
+pub look-at-spec : {M : Type 1} → statement M
+look-at-spec =
+    tie.close
+    (tie.spec
+    port-at-requires
+    enum-told
+    enum-told-2
+    enum-told-3
+    req-prod-requires
+    returns
+    returns-2
+    returns-3
+    returns-4)

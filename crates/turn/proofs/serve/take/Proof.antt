@@ -1,0 +1,178 @@
+-- `turn::serve::take` meets its contract: the copy is the slot, and the verdict on it is the one due. Assumes nothing.
+use borrow.Author.Needs.{needs}
+use Prim.Native.Nat.{ℕ, _+_, _*_}
+use native.Mathlib.Omega.{arith}
+use native.Mathlib.Nat.{add-sub-cancel-left}
+use mathlib.Core.Path.{_≡_, refl, sym, ap, _∙_}
+use Rattle.wire.specs.Part.{part}
+use Rattle.model.specs.Buffers.{pageShare, grantsOf}
+use Rattle.model.specs.Plan.{wordsBeside}
+use Rattle.model.specs.Ring.{slotBytes, ringOf, slotAt}
+use Rattle.request.specs.Judge.{requestIn}
+use Rattle.request.proofs.Expected.{expected-fits}
+use Rattle.memory.specs.Backend.{backendOf}
+use Rattle.turn.specs.Serve.{Reads}
+use Rattle.turn.proofs.Taking.{slot-within, took-declined, took-started}
+use Rattle.turn.proofs.serve.take.Statement.{statement}
+use Rattle.turn.proofs.serve.take.Tie as tie
+
+-- where the function began
+abbrev entry : tie.After-port-at → tie.Start
+entry x = x .before .before .before .before .before .before .before .before .before .before .before .before
+
+-- where the slot is, by the port's fields
+placed-at : (x : tie.After-port-at) → x .before .before .before .before .slot-at .result ≡ slotAt (ringOf (x .port-at .result .params)) (x .port-at .result .consumed)
+placed-at x =
+    let placed = x .before .before .before .before in
+    rw (x .port-at .ensures, ← x .before .before .before .before .before .abi .ensures, ← x .before .before .before .before .before .before .before .consumed .ensures) (placed .slot-at .ensures)
+
+-- and that it is the port's
+own : (x : tie.After-port-at) → Reads (backendOf (entry x .args .memory .now)) (entry x .args .k) (x .port-at .result)
+own x = record { port = entry x .pre .0 .reads .port; read = x .port-at .ensures }
+
+consumed-requires : tie.Need-consumed-requires
+consumed-requires c κs = search needs
+
+mul-at : tie.Need-mul-at
+mul-at c = search needs
+
+abi-requires : tie.Need-abi-requires
+abi-requires c κs = search needs
+
+slot-at-requires : tie.Need-slot-at-requires
+slot-at-requires c κs = search needs
+
+add-at : tie.Need-add-at
+add-at c =
+    let kind = c .before in
+    let read = kind .before .before in
+    let start = read .before .before .before .before .before in
+    let h = start .pre .0 .reads .port in
+    record { fits = omega (arith, h, c .slot-at .ensures, slot-within (kind .abi .result) (read .consumed .result)) }
+
+copy-slot-requires : tie.Need-copy-slot-requires
+copy-slot-requires c κs =
+    let placed = c .before in
+    let kind = placed .before in
+    let read = kind .before .before in
+    let start = read .before .before .before .before .before in
+    let h = start .pre .0 .reads .port in
+    omega (arith, h, start .pre .1 .pages, placed .slot-at .ensures, slot-within (kind .abi .result) (read .consumed .result))
+
+port-at-requires : tie.Need-port-at-requires
+port-at-requires c κs = search needs
+
+mul-from : tie.Need-mul-from
+mul-from c = search needs
+
+add-end : tie.Need-add-end
+add-end c = search needs
+
+sub-judge : tie.Need-sub-judge
+sub-judge c = search needs
+
+part-judge-start : tie.Need-part-judge-start
+part-judge-start c = search needs
+
+part-judge-end : tie.Need-part-judge-end
+part-judge-end c = search needs
+
+judge-requires : tie.Need-judge-requires
+judge-requires c κs = search needs
+
+pair-of-requires : tie.Need-pair-of-requires
+pair-of-requires c κs = search needs
+
+enum-known-verdict : tie.Need-enum-known-verdict
+enum-known-verdict c = search needs
+
+decline-requires : tie.Need-decline-requires
+decline-requires c κs =
+    let x = c .before .before .before .before .before .before .before .before .before .before .before .before .before .before in
+    (own x, entry x .pre .1 .pages)
+
+enum-known-verdict-2 : tie.Need-enum-known-verdict-2
+enum-known-verdict-2 c = search needs
+
+start-requires : tie.Need-start-requires
+start-requires c κs =
+    let told = c .before .before in
+    let judged = told .before .before .before .before .before .before in
+    let x = judged .before .before .before .before .before in
+    (rw (x .port-at .ensures) (entry x .pre .0), expected-fits _ _ _ _ (sym (judged .judge .ensures .verdict) ∙ told .verdict2 .given .1))
+
+same-length : tie.Need-same-length
+same-length c = search needs
+
+same-length-2 : tie.Need-same-length-2
+same-length-2 c = search needs
+
+returns : tie.Need-returns
+unfolding grantsOf part
+returns c =
+    let done = c .before .before in
+    let told = done .before .before .before .before in
+    let paired = told .before .before in
+    let judged = paired .before .before .before .before in
+    let x = judged .before .before .before .before .before in
+    let copied = x .before .before in
+    let a = entry x .args in
+    let said = judged .judge .ensures in
+    took-declined (a .memory .now) (a .rings .now) (a .grants .now) (a .k) (x .port-at .result) (own x) (copied .copy-slot .result)
+    (copied .copy-slot .ensures ∙ ap (λ (i : ℕ). part slotBytes (a .rings .now) (pageShare * a .k + i)) (placed-at x))
+    (judged .judge .result) (rw add-sub-cancel-left at (said .verdict))
+    (paired .pair-of .result) (paired .pair-of .ensures)
+    _ _ (said .beside ∙ ap (wordsBeside (requestIn (x .port-at .result .params) (copied .copy-slot .result))) (sym (said .verdict)))
+    _ _ _ _ (told .verdict .given .1) (done .decline .ensures)
+
+same-length-3 : tie.Need-same-length-3
+same-length-3 c = search needs
+
+same-length-4 : tie.Need-same-length-4
+same-length-4 c = search needs
+
+returns-2 : tie.Need-returns-2
+unfolding grantsOf part
+returns-2 c =
+    let told = c .before .before .before in
+    let paired = told .before .before in
+    let judged = paired .before .before .before .before in
+    let x = judged .before .before .before .before .before in
+    let copied = x .before .before in
+    let a = entry x .args in
+    let said = judged .judge .ensures in
+    took-started (a .memory .now) (a .rings .now) (a .grants .now) (a .k) (x .port-at .result) (own x) (copied .copy-slot .result)
+    (copied .copy-slot .ensures ∙ ap (λ (i : ℕ). part slotBytes (a .rings .now) (pageShare * a .k + i)) (placed-at x))
+    (judged .judge .result) (rw add-sub-cancel-left at (said .verdict))
+    (paired .pair-of .result) (paired .pair-of .ensures)
+    _ _ (said .beside ∙ ap (wordsBeside (requestIn (x .port-at .result .params) (copied .copy-slot .result))) (sym (said .verdict)))
+    _ _ _ (told .verdict2 .given .1) refl (c .start .ensures)
+
+pub take-spec : {M : Type 1} → statement M
+take-spec =
+    tie.close
+    (tie.spec
+    consumed-requires
+    mul-at
+    abi-requires
+    slot-at-requires
+    add-at
+    copy-slot-requires
+    port-at-requires
+    mul-from
+    add-end
+    sub-judge
+    part-judge-start
+    part-judge-end
+    judge-requires
+    pair-of-requires
+    enum-known-verdict
+    decline-requires
+    enum-known-verdict-2
+    start-requires
+    same-length
+    same-length-2
+    returns
+    same-length-3
+    same-length-4
+    returns-2)

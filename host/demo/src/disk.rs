@@ -1,0 +1,136 @@
+//! A disk image in a file, and what a plan does to it.
+
+use crate::link::Frames;
+use crate::pattern::{Model, SECTOR};
+use crate::profile::Profile;
+use kernelharp::{Operation, Plan};
+use std::fs::{File, OpenOptions};
+use std::io;
+use std::ops::Range;
+use std::os::unix::fs::FileExt;
+use std::path::Path;
+
+/// Sectors behind each disk that no request may reach.
+const GUARD_SECTORS: u64 = 64;
+const GUARD_BYTE: u8 = 0x5A;
+/// The largest plan that moves bytes: eleven frames.
+const MOST_BYTES: usize = 11 * 8 * SECTOR;
+
+/// Results of a completion that are no count.
+const INPUT_OUTPUT_ERROR: i32 = -5;
+const NOT_SUPPORTED: i32 = -95;
+
+/// An image file: the disk, then the guard.
+pub struct Disk {
+    file: File,
+    sectors: u64,
+    discards: bool,
+    bad: Range<u64>,
+    /// Where bytes rest between the file and frames that the guest can write.
+    buffer: Vec<u8>,
+}
+
+impl Disk {
+    /// A new image that holds what the guest expects of it.
+    pub fn create(path: &Path, profile: &Profile, model: &Model) -> io::Result<Disk> {
+        let mut options = OpenOptions::new();
+        let file = options.read(true).write(true).create_new(true).open(path)?;
+        let disk = Disk {
+            file,
+            sectors: profile.sheet.sectors,
+            discards: profile.discards,
+            bad: profile.bad.clone(),
+            buffer: vec![0; MOST_BYTES],
+        };
+        let mut bytes = [0; SECTOR];
+        for (sector, &version) in (0..).zip(model.versions(0, disk.sectors)) {
+            model.fill(sector, version, &mut bytes);
+            disk.file.write_all_at(&bytes, offset(sector))?;
+        }
+        let guard = vec![GUARD_BYTE; offset(GUARD_SECTORS) as usize];
+        disk.file.write_all_at(&guard, offset(disk.sectors))?;
+        Ok(disk)
+    }
+
+    /// Does what a plan asks for and gives the result to complete it with.
+    pub fn carry_out(&mut self, plan: &Plan, frames: &Frames) -> i32 {
+        if plan.start < self.bad.end && self.bad.start < plan.start + plan.count {
+            return INPUT_OUTPUT_ERROR;
+        }
+        let done = match plan.operation {
+            Operation::Read => self.read(plan, frames),
+            Operation::Write | Operation::Barrier => self.write(plan, frames),
+            Operation::Flush => self.file.sync_data(),
+            Operation::Discard if self.discards => self.zero(plan),
+            // A medium without discards, and operations that this host does not know.
+            _ => return NOT_SUPPORTED,
+        };
+        match done {
+            Ok(()) => plan.expected_result(),
+            Err(_) => INPUT_OUTPUT_ERROR,
+        }
+    }
+
+    fn read(&mut self, plan: &Plan, frames: &Frames) -> io::Result<()> {
+        let bytes = &mut self.buffer[..offset(plan.count) as usize];
+        self.file.read_exact_at(bytes, offset(plan.start))?;
+        for (extent, place) in places(plan) {
+            frames.write(extent.0, extent.1, &bytes[place]);
+        }
+        Ok(())
+    }
+
+    fn write(&mut self, plan: &Plan, frames: &Frames) -> io::Result<()> {
+        let bytes = &mut self.buffer[..offset(plan.count) as usize];
+        for (extent, place) in places(plan) {
+            frames.read(extent.0, extent.1, &mut bytes[place]);
+        }
+        self.file.write_all_at(bytes, offset(plan.start))
+    }
+
+    /// A discard, secure or not: zeros are written over what was there.
+    fn zero(&self, plan: &Plan) -> io::Result<()> {
+        let zeros = vec![0; offset(plan.count) as usize];
+        self.file.write_all_at(&zeros, offset(plan.start))
+    }
+
+    /// Checks the guard and, where there is a model, each byte of the disk. Gives how many bytes
+    /// were checked.
+    pub fn verify(&self, model: Option<&Model>) -> Result<u64, String> {
+        let sectors = self.sectors + GUARD_SECTORS;
+        let length = self.file.metadata().map_err(|fault| fault.to_string())?;
+        if length.len() != offset(sectors) {
+            return Err(format!("an image has {} bytes", length.len()));
+        }
+        let first = if model.is_some() { 0 } else { self.sectors };
+        let mut bytes = [0; SECTOR];
+        for sector in first..sectors {
+            let read = self.file.read_exact_at(&mut bytes, offset(sector));
+            read.map_err(|fault| fault.to_string())?;
+            let sound = match model {
+                Some(model) if sector < self.sectors => {
+                    model.holds(sector, model.versions(sector, 1)[0], &bytes)
+                }
+                _ => bytes == [GUARD_BYTE; SECTOR],
+            };
+            if !sound {
+                return Err(format!("sector {sector} of an image is not as written"));
+            }
+        }
+        Ok(offset(sectors - first))
+    }
+}
+
+/// The extents of a plan as frame and first sector, each with its place among the plan's bytes.
+fn places(plan: &Plan) -> impl Iterator<Item = ((u32, usize), Range<usize>)> + '_ {
+    plan.extents().iter().map(|extent| {
+        let begin = offset(extent.disk_sector - plan.start) as usize;
+        let length = usize::from(extent.length) * SECTOR;
+        let from = (extent.frame, usize::from(extent.first_sector));
+        (from, begin..begin + length)
+    })
+}
+
+fn offset(sectors: u64) -> u64 {
+    sectors * SECTOR as u64
+}

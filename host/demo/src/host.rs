@@ -1,0 +1,203 @@
+//! The host: turns, the I/O of the plans, completions; opening, draining and closing ports.
+
+use crate::disk::Disk;
+use crate::link::{grants, Link, State, BOUND};
+use crate::profile::Profile;
+use crate::report::{Counts, Progress};
+use frontend::EventChannel;
+use generate::Random;
+use kernelharp::layout::PORTS;
+use kernelharp::live::LiveBackend;
+use kernelharp::{Name, Operation, Plan, Port, Refusal, Turn};
+
+/// Turns in a row before the host goes on with the I/O.
+const BURST: usize = 64;
+/// Of a hundred completions, how many are asked for once more, or an old one is.
+const DOUBLED: u64 = 10;
+
+/// The host of eight guests.
+pub struct Host<'a> {
+    backend: LiveBackend,
+    profiles: &'a [Profile],
+    links: &'a [Link],
+    bell: &'a EventChannel,
+    disks: &'a mut [Disk],
+    random: Random,
+    /// Started and not yet carried out, by port, in the order of their starts.
+    held: [Vec<Plan>; PORTS],
+    /// One completed request of each port since its opening.
+    past: [Option<Name>; PORTS],
+    broken: [bool; PORTS],
+    pub counts: Counts,
+}
+
+impl<'a> Host<'a> {
+    pub fn new(
+        profiles: &'a [Profile],
+        links: &'a [Link],
+        bell: &'a EventChannel,
+        disks: &'a mut [Disk],
+        random: Random,
+    ) -> Result<Host<'a>, String> {
+        let backend = LiveBackend::new().map_err(|fault| fault.to_string())?;
+        Ok(Host {
+            backend,
+            profiles,
+            links,
+            bell,
+            disks,
+            random,
+            held: Default::default(),
+            past: [None; PORTS],
+            broken: [false; PORTS],
+            counts: Counts::default(),
+        })
+    }
+
+    /// Serves until every guest has finished.
+    pub fn run(&mut self, progress: &mut Progress) -> Result<(), String> {
+        loop {
+            for port in Port::all() {
+                self.attend(port)?;
+            }
+            let mut states = self.links.iter().map(Link::state);
+            if states.all(|state| state == State::Finished) {
+                return Ok(());
+            }
+            let idle = self.take_turns()?;
+            self.carry_out_some()?;
+            progress.show(self.links, &self.counts);
+            // The backend's idle is that of a second look, so it is safe to sleep now.
+            if idle && self.held.iter().all(Vec::is_empty) {
+                self.counts.sleeps += 1;
+                if !self.bell.wait(BOUND) {
+                    return Err("the host slept, and nobody rang".to_string());
+                }
+            }
+        }
+    }
+
+    /// Opens a port whose guest is ready, and closes one that is broken or no longer wanted.
+    fn attend(&mut self, port: Port) -> Result<(), String> {
+        let link = &self.links[port.index()];
+        match link.state() {
+            State::Initialised => {
+                self.open(port)?;
+                link.go(State::Connected, &link.to_guest);
+            }
+            State::Connected if self.broken[port.index()] => {
+                self.drain_and_close(port)?;
+                link.go(State::Closed, &link.to_guest);
+            }
+            State::Closing => {
+                self.drain_and_close(port)?;
+                link.go(State::Finished, &link.to_guest);
+            }
+            State::Connected | State::Closed | State::Finished => {}
+        }
+        Ok(())
+    }
+
+    fn open(&mut self, port: Port) -> Result<(), String> {
+        let sheet = self.profiles[port.index()].sheet.bytes();
+        let page = self.links[port.index()].page.shared();
+        *self.backend.grants_mut(port) = grants();
+        let opened = self.backend.open(port, &sheet, page);
+        opened.map_err(|refusal| format!("open of {port}: {refusal}"))
+    }
+
+    fn drain_and_close(&mut self, port: Port) -> Result<(), String> {
+        while !self.held[port.index()].is_empty() {
+            self.carry_out_one(port)?;
+        }
+        let closed = self.backend.close(port);
+        closed.map_err(|refusal| format!("close of {port}: {refusal}"))?;
+        self.broken[port.index()] = false;
+        // Serials begin anew: an old completion could name a new request.
+        self.past[port.index()] = None;
+        Ok(())
+    }
+
+    /// Takes turns until one is idle, or enough. Says whether one was idle.
+    fn take_turns(&mut self) -> Result<bool, String> {
+        for _ in 0..BURST {
+            self.counts.turns += 1;
+            match self.backend.turn() {
+                Turn::Idle => {
+                    self.counts.idle += 1;
+                    return Ok(true);
+                }
+                Turn::Started(plan) => {
+                    let port = plan.name.port.index();
+                    self.counts.ports[port].started += 1;
+                    self.held[port].push(plan);
+                }
+                Turn::Answered {
+                    port,
+                    reason,
+                    notify,
+                    ..
+                } => {
+                    self.counts.ports[port.index()].count_refused(reason);
+                    self.notify_if(notify, port);
+                }
+                Turn::Overrun(port) => {
+                    self.counts.ports[port.index()].overruns += 1;
+                    self.broken[port.index()] = true;
+                    return Ok(false);
+                }
+                other => return Err(format!("the host knows no such answer: {other}")),
+            }
+        }
+        Ok(false)
+    }
+
+    /// Does some of the I/O held, from any port.
+    fn carry_out_some(&mut self) -> Result<(), String> {
+        for port in Port::all() {
+            let held = self.held[port.index()].len();
+            for _ in 0..self.random.index(held + 1).max(held.min(1)) {
+                self.carry_out_one(port)?;
+            }
+        }
+        Ok(())
+    }
+
+    /// Carries out one plan of a port that has some, in any order but across a barrier: what was
+    /// started before a barrier is done before it, and what was started after it, after it.
+    fn carry_out_one(&mut self, port: Port) -> Result<(), String> {
+        let held = &mut self.held[port.index()];
+        let is_barrier = |plan: &Plan| plan.operation == Operation::Barrier;
+        let before = held.iter().position(is_barrier).unwrap_or(held.len());
+        let plan = held.remove(self.random.index(before.max(1)));
+        let result = self.disks[port.index()].carry_out(&plan, &self.links[port.index()].frames);
+        let done = self.backend.complete(plan.name, result);
+        let done = done.map_err(|refusal| format!("completion of {plan}: {refusal}"))?;
+        self.counts.ports[port.index()].count_completed(&plan, result);
+        self.notify_if(done.notify, port);
+        if self.random.chance(DOUBLED) {
+            self.complete_again(plan.name)?;
+        }
+        Ok(())
+    }
+
+    /// Completes a request a second time, and an older one too: both must be refused.
+    fn complete_again(&mut self, newest: Name) -> Result<(), String> {
+        let port = newest.port.index();
+        let past = self.past[port].replace(newest);
+        for name in past.into_iter().chain([newest]) {
+            let doubled = self.backend.complete(name, 0);
+            if doubled != Err(Refusal::NotBusy) {
+                return Err(format!("{name} completed again: {doubled:?}"));
+            }
+            self.counts.ports[port].completions_refused += 1;
+        }
+        Ok(())
+    }
+
+    fn notify_if(&self, notify: bool, port: Port) {
+        if notify {
+            self.links[port.index()].to_guest.notify();
+        }
+    }
+}

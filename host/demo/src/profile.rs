@@ -1,0 +1,112 @@
+//! The eight guests: what each is and what disk it has.
+
+use kernelharp::layout::PORTS;
+use kernelharp::Sheet;
+use std::ops::Range;
+
+/// What a guest does with its disk.
+#[derive(Clone, Copy, Debug, PartialEq, Eq)]
+pub enum Role {
+    /// Keeps saved scores in the first part of the disk and a daily board in the rest, which it
+    /// writes anew at its own hour of the day.
+    Board {
+        /// The hour at which its day rolls, 0 to 23.
+        roll_hour: u64,
+    },
+    /// Writes and reads back anywhere.
+    Plain,
+    /// Breaks every rule of the ring that a guest can break.
+    Hostile,
+}
+
+/// A guest with its disk.
+#[derive(Debug)]
+pub struct Profile {
+    /// What the report calls it.
+    pub name: &'static str,
+    pub role: Role,
+    pub sheet: Sheet,
+    /// Whether the host can discard on what lies under the disk, whatever the sheet says.
+    pub discards: bool,
+    /// Sectors that the host cannot read or write.
+    pub bad: Range<u64>,
+}
+
+impl Profile {
+    fn new(name: &'static str, role: Role, sheet: Sheet) -> Profile {
+        Profile {
+            name,
+            role,
+            sheet,
+            discards: true,
+            bad: 0..0,
+        }
+    }
+
+    /// The disk's unit of alignment, in sectors of 512 bytes.
+    pub fn unit(&self) -> u64 {
+        u64::from(self.sheet.sector_size) / 512
+    }
+
+    /// Where a board begins, behind the saved scores; the guest's free writes stay above.
+    pub fn floor(&self) -> u64 {
+        match self.role {
+            Role::Board { .. } => self.sheet.sectors / 4,
+            Role::Plain | Role::Hostile => 0,
+        }
+    }
+}
+
+/// A disk with every feature.
+fn full(sector_size: u32, sectors: u64) -> Sheet {
+    Sheet {
+        writable: true,
+        barrier: true,
+        flush: true,
+        discard: true,
+        secure_discard: true,
+        sector_size,
+        sectors,
+    }
+}
+
+/// The guests by port.
+pub fn profiles() -> [Profile; PORTS] {
+    let board = |roll_hour| Role::Board { roll_hour };
+    let without_discard = |sheet| Sheet {
+        discard: false,
+        secure_discard: false,
+        ..sheet
+    };
+    let bare = Sheet {
+        writable: true,
+        sector_size: 512,
+        sectors: 2008,
+        ..Sheet::default()
+    };
+    let read_only = Sheet {
+        writable: false,
+        ..full(512, 1500)
+    };
+    let no_secure = Sheet {
+        secure_discard: false,
+        ..full(2048, 3000)
+    };
+    let no_flush = Sheet {
+        flush: false,
+        ..full(512, 2048)
+    };
+    let mut all = [
+        Profile::new("board, first zone", board(0), full(512, 2816)),
+        Profile::new("board, second zone", board(9), full(4096, 2816)),
+        Profile::new("no discard", Role::Plain, without_discard(full(1024, 2500))),
+        Profile::new("no secure discard", Role::Plain, no_secure),
+        Profile::new("medium can't discard", Role::Plain, full(4096, 4096)),
+        Profile::new("read-only", Role::Plain, read_only),
+        Profile::new("bad sectors", Role::Plain, bare),
+        Profile::new("hostile", Role::Hostile, no_flush),
+    ];
+    all[4].discards = false;
+    all[6].bad = 1000..1010;
+    all
+}

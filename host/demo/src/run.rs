@@ -1,0 +1,130 @@
+//! One run: images, links, the host and its guests put together, and the verdict.
+
+use crate::disk::Disk;
+use crate::guest::Guest;
+use crate::host::Host;
+use crate::hostile::Hostile;
+use crate::link::Link;
+use crate::pattern::Model;
+use crate::profile::{profiles, Profile, Role};
+use crate::report::{print_table, Checks, Counts, Progress};
+use frontend::EventChannel;
+use generate::Random;
+use kernelharp::layout::PORTS;
+use std::path::Path;
+use std::thread;
+use std::time::Instant;
+
+/// What a guest ends with: its checks, and what its disk must hold unless it is hostile.
+type End = (Checks, Option<Model>);
+
+/// Runs the demo on images in a folder and prints the table. An error is a check that did not hold.
+pub fn demo(folder: &Path, seed: u64, rounds: u64) -> Result<(), String> {
+    let begin = Instant::now();
+    let profiles = profiles();
+    let models = models(seed, &profiles);
+    let mut disks = disks(folder, &profiles, &models)?;
+    let (counts, ends) = play(&profiles, &mut disks, models, seed, rounds)?;
+    let checks: Vec<Checks> = ends.iter().map(|end| end.0).collect();
+    print_table(&profiles, &counts, &checks);
+    let bytes = verify(&disks, &ends)?;
+    println!("images: {bytes} bytes as the guests left them, none behind a disk's end touched");
+    let seconds = begin.elapsed().as_secs_f64();
+    println!("Every check held, in {seconds:.1} s.");
+    Ok(())
+}
+
+/// Lets the guests live, each in a thread, and serves them in this one.
+fn play(
+    profiles: &[Profile],
+    disks: &mut [Disk],
+    models: Vec<Model>,
+    seed: u64,
+    rounds: u64,
+) -> Result<(Counts, Vec<End>), String> {
+    let links: [Link; PORTS] = std::array::from_fn(|_| Link::new());
+    let (bell, mut progress) = (EventChannel::new(), Progress::new(rounds));
+    let random = |part: usize| Random::new(seed.wrapping_mul(16).wrapping_add(part as u64));
+    let mut host = Host::new(profiles, &links, &bell, disks, random(PORTS))?;
+    let (served, ends) = thread::scope(|scope| {
+        let mut guests = Vec::new();
+        for (port, model) in models.into_iter().enumerate() {
+            let (profile, link, bell) = (&profiles[port], &links[port], &bell);
+            let random = random(port);
+            guests.push(scope.spawn(move || match profile.role {
+                Role::Hostile => Hostile::new(link, bell, random).run(rounds),
+                _ => Guest::new(profile, link, bell, model, random).run(rounds),
+            }));
+        }
+        let served = host.run(&mut progress);
+        let joined = guests.into_iter().map(|guest| guest.join());
+        let panicked = || Err("a guest panicked".to_string());
+        let ends: Vec<_> = joined
+            .map(|end| end.unwrap_or_else(|_| panicked()))
+            .collect();
+        (served, ends)
+    });
+    progress.end();
+    served?;
+    let ends: Result<Vec<End>, String> = ends.into_iter().collect();
+    Ok((host.counts, ends?))
+}
+
+/// What the disks hold at first: zeros, or where nothing can be written, a pattern.
+fn models(seed: u64, profiles: &[Profile]) -> Vec<Model> {
+    let numbered = profiles.iter().enumerate();
+    let models = numbered.map(|(port, profile)| {
+        let version = u32::from(!profile.sheet.writable);
+        Model::new(seed, port, profile.sheet.sectors, version)
+    });
+    models.collect()
+}
+
+fn disks(folder: &Path, profiles: &[Profile], models: &[Model]) -> Result<Vec<Disk>, String> {
+    let mut disks = Vec::new();
+    for (port, (profile, model)) in profiles.iter().zip(models).enumerate() {
+        let path = folder.join(format!("disk-{port}"));
+        let disk = Disk::create(&path, profile, model);
+        disks.push(disk.map_err(|fault| format!("{}: {fault}", path.display()))?);
+    }
+    Ok(disks)
+}
+
+/// Holds every image against its guest's model. Gives how many bytes were checked.
+fn verify(disks: &[Disk], ends: &[End]) -> Result<u64, String> {
+    let mut bytes = 0;
+    for (port, (disk, (_, model))) in disks.iter().zip(ends).enumerate() {
+        let checked = disk.verify(model.as_ref());
+        bytes += checked.map_err(|fault| format!("disk {port}: {fault}"))?;
+    }
+    Ok(bytes)
+}
+
+#[cfg(test)]
+mod tests {
+    use super::*;
+    use crate::Folder;
+
+    /// The images hold another pattern than the guests know of.
+    #[test]
+    fn a_guest_finds_bytes_that_it_did_not_write() {
+        let (folder, profiles) = (Folder::new("bytes").unwrap(), profiles());
+        let others = models(2, &profiles);
+        let mut disks = disks(&folder.0, &profiles, &others).unwrap();
+        let played = play(&profiles, &mut disks, models(1, &profiles), 1, 3);
+        let fault = played.expect_err("the images are others");
+        assert!(fault.starts_with("read-only: sector"), "{fault}");
+    }
+
+    /// The host's medium has a bad sector that the guest does not know of.
+    #[test]
+    fn a_guest_finds_a_status_that_is_not_due() {
+        let (folder, known, mut real) = (Folder::new("status").unwrap(), profiles(), profiles());
+        real[0].bad = 0..1;
+        let models = models(1, &known);
+        let mut disks = disks(&folder.0, &real, &models).unwrap();
+        let played = play(&known, &mut disks, models, 1, 3);
+        let fault = played.expect_err("a sector is bad");
+        assert!(fault.starts_with("board, first zone: Response"), "{fault}");
+    }
+}

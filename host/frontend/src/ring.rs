@@ -1,0 +1,104 @@
+//! A guest's private indices over its page; ring.h's macro for each step is named.
+
+use crate::{GuestPage, Response};
+use kernelharp::layout::{
+    slot_at, REQ_EVENT, REQ_PROD, RESPONSE_BYTES, RSP_EVENT, RSP_PROD, SLOTS, SLOT_BYTES,
+};
+use std::sync::atomic::{fence, Ordering};
+
+/// A guest's side of a ring.
+#[derive(Debug)]
+pub struct Frontend {
+    page: &'static GuestPage,
+    /// Requests put.
+    req_prod_pvt: u32,
+    /// Requests published.
+    published: u32,
+    /// Responses read.
+    rsp_cons: u32,
+}
+
+impl Frontend {
+    /// Begins on a page with an unused ring (FRONT_RING_INIT).
+    pub fn new(page: &'static GuestPage) -> Frontend {
+        Frontend {
+            page,
+            req_prod_pvt: 0,
+            published: 0,
+            rsp_cons: 0,
+        }
+    }
+
+    /// How many more requests there is room for (RING_FREE_REQUESTS).
+    pub fn free(&self) -> u32 {
+        SLOTS as u32 - self.req_prod_pvt.wrapping_sub(self.rsp_cons)
+    }
+
+    /// Puts a request in the next slot, not yet published.
+    pub fn put(&mut self, request: &[u8; SLOT_BYTES]) {
+        assert!(self.free() > 0, "a full ring");
+        self.page.write(slot_at(self.req_prod_pvt), request);
+        self.req_prod_pvt = self.req_prod_pvt.wrapping_add(1);
+    }
+
+    /// Publishes what was put, and says whether to notify the backend
+    /// (RING_PUSH_REQUESTS_AND_CHECK_NOTIFY).
+    #[must_use = "a backend that is not notified may sleep for ever"]
+    pub fn publish(&mut self) -> bool {
+        let old = self.raise_req_prod();
+        self.backend_asked(old)
+    }
+
+    /// The first half of [`Frontend::publish`]; gives req_prod as it was.
+    pub fn raise_req_prod(&mut self) -> u32 {
+        let old = self.published;
+        // The requests are there before the index that publishes them.
+        fence(Ordering::Release);
+        self.page.store(REQ_PROD, self.req_prod_pvt);
+        self.published = self.req_prod_pvt;
+        // The index is out before req_event is looked at.
+        fence(Ordering::SeqCst);
+        old
+    }
+
+    /// The second half: whether req_event lies among the requests published since `old`.
+    pub fn backend_asked(&self, old: u32) -> bool {
+        let new = self.published;
+        new.wrapping_sub(self.page.load(REQ_EVENT)) < new.wrapping_sub(old)
+    }
+
+    /// Whether a response waits (RING_HAS_UNCONSUMED_RESPONSES).
+    pub fn has_response(&self) -> bool {
+        self.page.load(RSP_PROD) != self.rsp_cons
+    }
+
+    /// The next response, if one waits.
+    pub fn response(&mut self) -> Option<Response> {
+        if !self.has_response() {
+            return None;
+        }
+        // The response is read after the index that published it.
+        fence(Ordering::Acquire);
+        let mut bytes = [0; RESPONSE_BYTES];
+        self.page.read(slot_at(self.rsp_cons), &mut bytes);
+        self.rsp_cons = self.rsp_cons.wrapping_add(1);
+        Some(Response::from_bytes(&bytes))
+    }
+
+    /// Whether there is a response after all; if not, the backend has been asked for an event and
+    /// the guest may sleep (RING_FINAL_CHECK_FOR_RESPONSES).
+    #[must_use = "a guest with a response waiting must not sleep"]
+    pub fn final_check(&self) -> bool {
+        self.has_response() || {
+            self.ask_for_event();
+            self.has_response()
+        }
+    }
+
+    /// Asks for an event with the next response.
+    pub fn ask_for_event(&self) {
+        self.page.store(RSP_EVENT, self.rsp_cons.wrapping_add(1));
+        // The wish is out before rsp_prod is looked at again.
+        fence(Ordering::SeqCst);
+    }
+}

@@ -1,0 +1,125 @@
+//! What a long run should show.
+
+use super::sheets::{body_class, NUMBER, TEXT};
+
+/// The reasons that each operation can meet.
+const REASONS: [(u8, &[u64]); 5] = [
+    (0, &[25, 26, 27, 28, 29]),
+    (1, &[24, 25, 26, 27, 28, 29]),
+    (2, &[22, 24, 25, 26, 27, 28, 29]),
+    (3, &[22, 25]),
+    (5, &[22, 23, 24, 25, 28, 29]),
+];
+
+/// Every class that a long run should show.
+pub fn expected_classes() -> Vec<String> {
+    let mut classes: Vec<String> = PLAIN_CLASSES.iter().map(|&name| name.into()).collect();
+    for number in [2, 3, 11, 12, 13, 14, 15] {
+        classes.push(format!("open refused {number:02}"));
+    }
+    for number in [2, 4, 5] {
+        classes.push(format!("close refused {number:02}"));
+    }
+    for number in [1, 2, 4, 6] {
+        classes.push(format!("complete refused {number:02}"));
+    }
+    for length in ["empty", "short", "long"] {
+        classes.push(format!("turn refused 01, rings {length}"));
+        classes.push(format!("turn refused 01, grants {length}"));
+        classes.push(format!("complete refused 01, rings {length}"));
+    }
+    for size in [512, 1024, 2048, 4096] {
+        classes.push(format!("open done, sector-size {size}"));
+    }
+    for (operation, reasons) in REASONS {
+        classes.push(format!("started, operation {operation}"));
+        classes.push(format!("completed, operation {operation}"));
+        for reason in reasons {
+            classes.push(format!("answered {reason}, operation {operation}"));
+        }
+    }
+    classes.extend((21..=29).map(|reason| format!("answered {reason}")));
+    classes.extend((1..=9).map(|node| body_class(TEXT, node)));
+    classes.extend([6, 7, 9].map(|node| body_class(NUMBER, node)));
+    classes
+}
+
+const PLAIN_CLASSES: &[&str] = &[
+    "answered",
+    "answered 21, operation 4",
+    "answered 27, a frame above 1023",
+    "answered 27, every frame granted for reading",
+    "answered 28, around 2^64",
+    "answered, notify no",
+    "answered, notify yes",
+    "answered, status -1",
+    "answered, status -2",
+    "close done",
+    "close done, broken port",
+    "complete refused 01, port above 7 too",
+    "complete refused 06, another serial",
+    "complete refused 06, doubled",
+    "complete refused 06, of an earlier opening",
+    "complete refused 06, tag above 31",
+    "complete refused 06, tag not busy",
+    "completed",
+    "completed, broken port",
+    "completed, named in an earlier opening too",
+    "completed, notify no",
+    "completed, notify yes",
+    "completed, status -0",
+    "completed, status -1",
+    "completed, status -2",
+    "guest wrote between calls",
+    "guest wrote over a slot in flight",
+    "guest wrote over a waiting request",
+    "guest wrote req_event",
+    "guest wrote rsp_prod",
+    "idle",
+    "idle, 32 in flight on an open port",
+    "idle, some port broken",
+    "idle, some port open",
+    "open done",
+    "open done, 0 sectors",
+    "open done, 2^64 - 1 sectors",
+    "open done, mode r",
+    "open done, mode w",
+    "open done, reopened",
+    "open refused 02, sheet damaged too",
+    "open refused 03, broken port",
+    "open refused 03, sheet damaged too",
+    "overrun",
+    "overrun, 32 in flight",
+    "overrun, behind",
+    "overrun, by one",
+    "overrun, far ahead",
+    "overrun, some in flight",
+    "served at the line",
+    "served beyond request 1000",
+    "served beyond slot 31",
+    "served with 31 in flight",
+    "sheet cut within its bodies",
+    "sheet cut within its table",
+    "sheet empty",
+    "sheet of more than 9 entries",
+    "sheet with a node above 9",
+    "sheet with a node twice",
+    "sheet with a reserved byte",
+    "sheet with bytes after its bodies",
+    "sheet with falling nodes",
+    "sheet with node 0",
+    "sheet without node 1",
+    "sheet without node 6",
+    "sheet without node 7",
+    "started",
+    "started, 11 extents",
+    "started, empty barrier",
+    "started, frame 1023",
+    "started, secure discard",
+    "started, tag 31",
+    "started, tag come back",
+    "started, total aligned though an extent is not",
+    "started, up to the last sector",
+    "turn refused 01",
+    "turn refused 01, rings and grants",
+];

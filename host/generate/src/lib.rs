@@ -1,0 +1,94 @@
+//! Random lists of calls, and running one list through several programs.
+//!
+//! A [`Step`] is what guests (and the host, in the grants) write, and then one call. The
+//! [`Generator`] makes steps; it looks at the answers of the first program, as a real host does.
+//! The other programs get the very same steps, and [`run`] stops at the first difference.
+//!
+//! To compare another program, implement [`Core`] for it and run it beside the second program:
+//!
+//! ```
+//! use second::Backend;
+//!
+//! let (mut second, mut other) = (Backend::new(), Backend::new());
+//! let report = generate::run(&mut [&mut second, &mut other], 1, 500);
+//! assert!(report.is_ok());
+//! ```
+
+mod census;
+mod generator;
+mod programs;
+mod random;
+mod requests;
+mod run;
+mod sheets;
+mod world;
+
+pub use census::Census;
+pub use generator::Generator;
+pub use programs::{done_words, for_second, turn_words, Core};
+pub use random::Random;
+pub use run::{run, Failure, Report};
+pub use world::{Outcome, World, UNTOUCHED};
+
+use kernelharp::Completion;
+
+/// One of the four calls. Buffers of another length than due hold the first bytes of the due one,
+/// then zeros.
+#[derive(Clone, Debug, PartialEq, Eq)]
+pub enum Call {
+    /// Open a port from a node sheet.
+    Open {
+        /// The port named.
+        port: u32,
+        /// The node sheet.
+        sheet: Vec<u8>,
+    },
+    /// Close a port.
+    Close {
+        /// The port named.
+        port: u32,
+    },
+    /// Take a turn.
+    Turn {
+        /// How many bytes of rings are lent.
+        rings_bytes: usize,
+        /// How many bytes of grants are lent.
+        grants_bytes: usize,
+    },
+    /// Complete a started request.
+    Complete {
+        /// How many bytes of rings are lent.
+        rings_bytes: usize,
+        /// The request named, and its result.
+        named: Completion,
+    },
+}
+
+/// Which buffer a [`Write`] goes to.
+#[derive(Clone, Copy, Debug, PartialEq, Eq)]
+pub enum Buffer {
+    /// The ring pages, written by guests.
+    Rings,
+    /// The grants, written by the host.
+    Grants,
+}
+
+/// Bytes that somebody writes between two calls.
+#[derive(Clone, Debug, PartialEq, Eq)]
+pub struct Write {
+    /// Where to.
+    pub buffer: Buffer,
+    /// At which byte of the buffer.
+    pub at: usize,
+    /// What.
+    pub bytes: Vec<u8>,
+}
+
+/// Writes, then a call.
+#[derive(Clone, Debug, PartialEq, Eq)]
+pub struct Step {
+    /// What is written before the call.
+    pub writes: Vec<Write>,
+    /// The call.
+    pub call: Call,
+}

@@ -1,0 +1,354 @@
+//! Guest requests: sound ones, and ones at fault at a check that is aimed at.
+
+use crate::Random;
+use kernelharp::layout::{MAX_EXTENTS, SLOT_BYTES};
+use second::{Disk, Operation};
+
+const READ: u8 = Operation::Read as u8;
+const WRITE: u8 = Operation::Write as u8;
+const BARRIER: u8 = Operation::Barrier as u8;
+const FLUSH: u8 = Operation::Flush as u8;
+const DISCARD: u8 = Operation::Discard as u8;
+
+/// A request before it is put into a slot.
+struct Draft {
+    operation: u8,
+    count_or_flag: u8,
+    start: u64,
+    /// A discard's sector count.
+    discard_count: u64,
+    segments: Vec<Segment>,
+}
+
+struct Segment {
+    frame: u32,
+    first: u8,
+    last: u8,
+}
+
+impl Draft {
+    /// How many sectors it is about.
+    fn count(&self) -> u64 {
+        if self.operation == DISCARD {
+            return self.discard_count;
+        }
+        let length = |segment: &Segment| u64::from(segment.last.wrapping_sub(segment.first)) + 1;
+        self.segments.iter().map(length).sum()
+    }
+
+    fn has_segments(&self) -> bool {
+        !self.segments.is_empty()
+    }
+}
+
+/// A request for a disk, at fault in about `faulty` of a hundred cases.
+pub fn any_request(
+    random: &mut Random,
+    disk: &Disk,
+    grants: &[u8],
+    faulty: u64,
+) -> [u8; SLOT_BYTES] {
+    if !random.chance(faulty) {
+        let draft = sound(random, disk, grants);
+        return encode(random, &draft);
+    }
+    if random.chance(5) {
+        return noise(random);
+    }
+    let number = 21 + random.below(9);
+    let mut draft = faulty_operation(random, number, disk, grants);
+    spoil(random, number, &mut draft, disk, grants);
+    // A second fault shows the order of the checks.
+    if random.chance(20) {
+        let second = 25 + random.below(5);
+        spoil(random, second, &mut draft, disk, grants);
+    }
+    encode(random, &draft)
+}
+
+/// Random bytes with a likely operation.
+fn noise(random: &mut Random) -> [u8; SLOT_BYTES] {
+    let mut slot = [0; SLOT_BYTES];
+    random.fill(&mut slot);
+    if random.chance(80) {
+        slot[0] = random.below(7) as u8;
+        slot[1] = random.below(14) as u8;
+    }
+    slot
+}
+
+/// The operations that the disk lets pass checks 22 to 24.
+fn allowed_operations(disk: &Disk) -> Vec<u8> {
+    let mut allowed = vec![READ, READ];
+    if disk.writable {
+        allowed.extend([WRITE, WRITE]);
+    }
+    if disk.writable && disk.barrier {
+        allowed.push(BARRIER);
+    }
+    if disk.flush {
+        allowed.push(FLUSH);
+    }
+    if disk.writable && disk.discard {
+        allowed.push(DISCARD);
+    }
+    allowed
+}
+
+fn sound(random: &mut Random, disk: &Disk, grants: &[u8]) -> Draft {
+    let operation = random.pick(&allowed_operations(disk));
+    draft(random, operation, disk, grants)
+}
+
+/// The operations that the disk offers, or those that it does not.
+fn having(offered: bool, operations: [(u8, bool); 3]) -> Vec<u8> {
+    let chosen = operations.into_iter().filter(|(_, on)| *on == offered);
+    chosen.map(|(operation, _)| operation).collect()
+}
+
+/// A draft whose operation leads to the check aimed at, where the disk has one.
+fn faulty_operation(random: &mut Random, number: u64, disk: &Disk, grants: &[u8]) -> Draft {
+    let mut candidates = match number {
+        21 => vec![4, 6, 7, 128, 255, random.byte() | 8],
+        22 => having(
+            false,
+            [
+                (BARRIER, disk.barrier),
+                (FLUSH, disk.flush),
+                (DISCARD, disk.discard),
+            ],
+        ),
+        23 if disk.discard && !disk.secure => vec![DISCARD],
+        24 if !disk.writable => having(
+            true,
+            [
+                (WRITE, true),
+                (BARRIER, disk.barrier),
+                (DISCARD, disk.discard),
+            ],
+        ),
+        _ => Vec::new(),
+    };
+    if candidates.is_empty() {
+        candidates = allowed_operations(disk);
+    }
+    let operation = random.pick(&candidates);
+    let mut draft = draft(random, operation, disk, grants);
+    if operation == DISCARD {
+        draft.count_or_flag = random.byte() & !1;
+        if number == 23 || disk.secure && random.chance(50) {
+            draft.count_or_flag |= 1;
+        }
+    }
+    draft
+}
+
+/// A draft that passes checks 25 to 29, if the disk is large enough.
+fn draft(random: &mut Random, operation: u8, disk: &Disk, grants: &[u8]) -> Draft {
+    let mut draft = Draft {
+        operation,
+        count_or_flag: 0,
+        start: random.word(),
+        discard_count: random.word(),
+        segments: Vec::new(),
+    };
+    match operation {
+        FLUSH => {}
+        DISCARD => {
+            draft.count_or_flag = random.byte() & !1;
+            if disk.secure && random.chance(50) {
+                draft.count_or_flag |= 1;
+            }
+            draft.discard_count = aligned_up_to(random, disk.sectors, disk.unit());
+            draft.discard_count = draft.discard_count.max(disk.unit());
+            draft.start = place(random, draft.discard_count, disk);
+        }
+        BARRIER if random.chance(20) => {}
+        _ => {
+            draft.segments = segments(random, operation, disk, grants);
+            draft.count_or_flag = draft.segments.len() as u8;
+            draft.start = place(random, draft.count(), disk);
+        }
+    }
+    draft
+}
+
+/// A multiple of `unit` up to `end`, often near one of the ends.
+fn aligned_up_to(random: &mut Random, end: u64, unit: u64) -> u64 {
+    let steps = end / unit;
+    let step = match random.index(4) {
+        0 => steps,
+        1 => steps.min(1 + random.below(8)),
+        _ if steps == u64::MAX => random.word(),
+        _ => random.below(steps + 1),
+    };
+    step * unit
+}
+
+/// A start so that `count` sectors fit, when any does.
+fn place(random: &mut Random, count: u64, disk: &Disk) -> u64 {
+    aligned_up_to(random, disk.sectors.saturating_sub(count), disk.unit())
+}
+
+fn segments(random: &mut Random, operation: u8, disk: &Disk, grants: &[u8]) -> Vec<Segment> {
+    let amount = match random.index(8) {
+        0 | 1 => MAX_EXTENTS,
+        2..=4 => 1,
+        _ => 1 + random.index(MAX_EXTENTS),
+    };
+    let mut lengths: Vec<u64> = (0..amount).map(|_| 1 + random.below(8)).collect();
+    // Only the total has to be a multiple of the unit: the last length makes it one.
+    let unit = disk.unit();
+    let excess = lengths.iter().sum::<u64>() % unit;
+    let last = &mut lengths[amount - 1];
+    if excess != 0 {
+        if *last > excess {
+            *last -= excess;
+        } else {
+            *last += unit - excess;
+        }
+    }
+    lengths
+        .into_iter()
+        .map(|length| {
+            let first = random.below(9 - length) as u8;
+            Segment {
+                frame: granted_frame(random, operation, grants),
+                first,
+                last: first + length as u8 - 1,
+            }
+        })
+        .collect()
+}
+
+fn is_granted(operation: u8, grant: u8) -> bool {
+    grant == 2 || grant == 1 && operation != READ
+}
+
+/// A frame granted as needed, unless none is found soon.
+fn granted_frame(random: &mut Random, operation: u8, grants: &[u8]) -> u32 {
+    let mut frame = random.pick(&[0, 1023, 5]);
+    for _ in 0..64 {
+        if is_granted(operation, grants[frame]) {
+            break;
+        }
+        frame = random.index(grants.len());
+    }
+    frame as u32
+}
+
+/// A frame not granted as needed: of another grant, or beyond the grants.
+fn refused_frame(random: &mut Random, operation: u8, grants: &[u8]) -> u32 {
+    match random.index(6) {
+        0 => 1024,
+        1 => random.pick(&[1029, 2048, 65536, 1 << 31, u32::MAX, 0x0100_0005]),
+        _ => {
+            let mut frame = random.index(grants.len());
+            for _ in 0..64 {
+                if !is_granted(operation, grants[frame]) {
+                    break;
+                }
+                frame = random.index(grants.len());
+            }
+            frame as u32
+        }
+    }
+}
+
+/// Makes a draft fail at a check from 25 on, as far as the operation has that check.
+fn spoil(random: &mut Random, number: u64, draft: &mut Draft, disk: &Disk, grants: &[u8]) {
+    match number {
+        25 => spoil_amount(random, draft),
+        26 if draft.has_segments() => {
+            let at = random.index(draft.segments.len());
+            let (first, last) = match random.index(5) {
+                0 => (3, 2),
+                1 => (0, 8),
+                2 => (8, 8),
+                3 => (random.byte(), random.byte()),
+                _ => (7, 6),
+            };
+            draft.segments[at].first = first;
+            draft.segments[at].last = last;
+        }
+        27 if draft.has_segments() => {
+            let at = random.index(draft.segments.len());
+            draft.segments[at].frame = refused_frame(random, draft.operation, grants);
+        }
+        28 => spoil_range(random, draft, disk),
+        29 => spoil_alignment(random, draft, disk),
+        _ => {}
+    }
+}
+
+fn spoil_amount(random: &mut Random, draft: &mut Draft) {
+    let above = random.pick(&[12, 13, 128, 255]);
+    match draft.operation {
+        FLUSH => draft.count_or_flag = random.pick(&[1, 11, 255]),
+        DISCARD => draft.discard_count = 0,
+        BARRIER => draft.count_or_flag = above,
+        _ => draft.count_or_flag = random.pick(&[0, above]),
+    }
+}
+
+/// Just beyond the end, far beyond it, or beyond 2^64.
+fn spoil_range(random: &mut Random, draft: &mut Draft, disk: &Disk) {
+    let unit = disk.unit();
+    let fits = disk.sectors.saturating_sub(draft.count());
+    draft.start = match random.index(5) {
+        0 => 0u64.wrapping_sub(unit),
+        1 => 0u64.wrapping_sub(draft.count()),
+        2 => random.word() / unit * unit,
+        _ => fits.saturating_add(unit) / unit * unit,
+    };
+    if draft.operation == DISCARD && random.chance(30) {
+        draft.discard_count = 0u64.wrapping_sub(unit * random.below(3));
+    }
+}
+
+/// A start, or a total, that is no multiple of the unit; none for a unit of 1.
+fn spoil_alignment(random: &mut Random, draft: &mut Draft, disk: &Disk) {
+    let unit = disk.unit();
+    if unit == 1 {
+        return;
+    }
+    if random.chance(50) {
+        draft.start = draft.start.wrapping_sub(1 + random.below(unit - 1));
+        if draft.start > disk.sectors {
+            draft.start = 1;
+        }
+    } else if draft.operation == DISCARD {
+        draft.discard_count = draft.discard_count.saturating_sub(1).max(1);
+    } else if let Some(segment) = draft.segments.last_mut() {
+        // One sector less, or one more where there is only one.
+        if segment.first < segment.last {
+            segment.last -= 1;
+        } else if segment.last < 7 {
+            segment.last += 1;
+        } else {
+            segment.first = segment.first.saturating_sub(1);
+        }
+    }
+}
+
+/// Puts a draft into a slot; every byte that has no meaning is random.
+fn encode(random: &mut Random, draft: &Draft) -> [u8; SLOT_BYTES] {
+    let mut slot = [0; SLOT_BYTES];
+    random.fill(&mut slot);
+    slot[0] = draft.operation;
+    slot[1] = draft.count_or_flag;
+    // Few ids, so that pairs repeat.
+    if random.chance(50) {
+        slot[8..16].copy_from_slice(&random.below(8).to_le_bytes());
+    }
+    slot[16..24].copy_from_slice(&draft.start.to_le_bytes());
+    if draft.operation == DISCARD {
+        slot[24..32].copy_from_slice(&draft.discard_count.to_le_bytes());
+    }
+    for (place, segment) in slot[24..].chunks_exact_mut(8).zip(&draft.segments) {
+        place[0..4].copy_from_slice(&segment.frame.to_le_bytes());
+        place[4] = segment.first;
+        place[5] = segment.last;
+    }
+    slot
+}

@@ -1,0 +1,171 @@
+//! Running one list through several programs, and comparing them.
+
+use crate::{Call, Census, Core, Generator, Outcome, Step, World, UNTOUCHED};
+use history::History;
+use second::Refusal;
+use std::fmt;
+
+/// Where a run stopped, and why.
+#[derive(Clone, Debug)]
+pub struct Failure {
+    /// The seed of the list.
+    pub seed: u64,
+    /// The number of the step, from 0.
+    pub number: u64,
+    /// The step.
+    pub step: Step,
+    /// What was wrong.
+    pub fault: String,
+}
+
+impl fmt::Display for Failure {
+    fn fmt(&self, f: &mut fmt::Formatter) -> fmt::Result {
+        let Failure { seed, number, .. } = self;
+        write!(f, "seed {seed}, step {number}: {}", self.fault)?;
+        write!(f, "\n  {:?}", self.step.call)
+    }
+}
+
+/// What a run came to.
+#[derive(Debug, Default)]
+pub struct Report {
+    /// What occurred, and how often.
+    pub census: Census,
+    /// The most turns in a row that a port with something to serve was passed over.
+    pub longest_wait: u32,
+}
+
+/// One program with its buffers, and its memory as the last call left it.
+struct Program<'a> {
+    core: &'a mut dyn Core,
+    world: World,
+    memory: Vec<u64>,
+}
+
+impl<'a> Program<'a> {
+    fn new(core: &'a mut dyn Core) -> Program<'a> {
+        let memory = core.memory().to_vec();
+        Program {
+            core,
+            world: World::new(),
+            memory,
+        }
+    }
+
+    fn run(&mut self, step: &Step) -> Outcome {
+        self.world.run(self.core, step)
+    }
+
+    /// A refused call leaves the memory (rule 14.6).
+    fn check_memory(&mut self, code: u32) -> Result<(), String> {
+        let now = self.core.memory();
+        if code != 0 {
+            return same_words("after a refusal memory word", &self.memory, now);
+        }
+        self.memory.copy_from_slice(now);
+        Ok(())
+    }
+}
+
+/// Runs a list of `calls` random calls through every program at once. After each call all must
+/// have given the same code, the same words and the same rings, grants and sheet; a refused call
+/// must have left memory and answer; and demand 3 must hold of the first program's history.
+pub fn run(cores: &mut [&mut dyn Core], seed: u64, calls: u64) -> Result<Report, Failure> {
+    let mut generator = Generator::new(seed);
+    let mut programs: Vec<Program> = cores.iter_mut().map(|core| Program::new(*core)).collect();
+    let mut history = History::new();
+    let mut census = Census::new();
+    for number in 0..calls {
+        let step = generator.next_step(&programs[0].world);
+        census.note_writes(&history, programs[0].world.rings(), &step.writes);
+        let outcomes: Vec<Outcome> = programs.iter_mut().map(|it| it.run(&step)).collect();
+        let checked = compare(&step.call, &mut programs, &outcomes).and_then(|()| {
+            let event = programs[0].world.event(&step.call, &outcomes[0]);
+            census.note(&history, &event);
+            history.check(&event)
+        });
+        if let Err(fault) = checked {
+            return Err(Failure {
+                seed,
+                number,
+                step,
+                fault,
+            });
+        }
+        generator.observe(&step.call, &outcomes[0]);
+    }
+    Ok(Report {
+        census,
+        longest_wait: history.longest_wait(),
+    })
+}
+
+/// What each program's call left as it was, and the first one's call against every other one's.
+fn compare(call: &Call, programs: &mut [Program], outcomes: &[Outcome]) -> Result<(), String> {
+    for (index, (program, outcome)) in programs.iter_mut().zip(outcomes).enumerate() {
+        program
+            .check_memory(outcome.code)
+            .and_then(|()| answer_kept(call, outcome))
+            .map_err(|fault| format!("program {index}: {fault}"))?;
+    }
+    let (first, others) = programs.split_at(1);
+    for (index, (program, outcome)) in others.iter().zip(&outcomes[1..]).enumerate() {
+        let one = (&first[0].world, &outcomes[0]);
+        compare_one(call, one, (&program.world, outcome))
+            .map_err(|fault| format!("programs 0 and {} differ: {fault}", index + 1))?;
+    }
+    Ok(())
+}
+
+fn compare_one(
+    call: &Call,
+    (world, outcome): (&World, &Outcome),
+    (other_world, other): (&World, &Outcome),
+) -> Result<(), String> {
+    if outcome.code != other.code {
+        return Err(format!("code {} and {}", outcome.code, other.code));
+    }
+    same_words("turn word", &outcome.turned, &other.turned)?;
+    same_words("done word", &outcome.done, &other.done)?;
+    same_words("rings byte", &world.rings, &other_world.rings)?;
+    same_words("grants byte", &world.grants, &other_world.grants)?;
+    if outcome.code == Refusal::WrongLength as u32 {
+        let (odd, other) = (&world.odd_left, &other_world.odd_left);
+        same_words("odd rings byte", odd, other)?;
+        let (odd, other) = (&world.odd_grants, &other_world.odd_grants);
+        same_words("odd grants byte", odd, other)?;
+    }
+    if let Call::Open { sheet, .. } = call {
+        same_words("sheet byte", sheet, &world.sheet)?;
+        same_words("sheet byte", sheet, &other_world.sheet)?;
+    }
+    Ok(())
+}
+
+fn same_words<T: PartialEq + fmt::LowerHex>(
+    what: &str,
+    one: &[T],
+    other: &[T],
+) -> Result<(), String> {
+    if one == other {
+        return Ok(());
+    }
+    match one.iter().zip(other).position(|(a, b)| a != b) {
+        Some(at) => Err(format!("{what} {at}: {:x} and {:x}", one[at], other[at])),
+        None => Err(format!("{what}s: {} and {}", one.len(), other.len())),
+    }
+}
+
+/// A refused call leaves its answer's words (rule 14.6).
+fn answer_kept(call: &Call, outcome: &Outcome) -> Result<(), String> {
+    let done = outcome.code == 0;
+    let turned_kept = done && matches!(call, Call::Turn { .. })
+        || outcome.turned.iter().all(|&word| word == UNTOUCHED);
+    let done_kept = done && matches!(call, Call::Complete { .. })
+        || outcome.done.iter().all(|&word| word == UNTOUCHED);
+    if turned_kept && done_kept {
+        Ok(())
+    } else {
+        Err("a refused call wrote into its answer".into())
+    }
+}

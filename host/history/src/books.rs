@@ -1,0 +1,112 @@
+//! What is counted of a port since its opening.
+
+use crate::page::{slot_at, u64_at, SLOTS};
+use std::collections::HashMap;
+
+/// The (id, operation) pair of a request or of an answer.
+type Pair = (u64, u8);
+
+/// A request that was taken and has no response yet (rule 12.16).
+#[derive(Clone, Debug)]
+struct Unfinished {
+    serial: u32,
+    pair: Pair,
+}
+
+/// What is counted of a port since its opening.
+#[derive(Debug, Default)]
+pub struct Books {
+    pub taken: u64,
+    answered: u64,
+    /// The unfinished request of each tag that a start named. One place per tag is enough: a start
+    /// that names a busy tag is a fault at once.
+    unfinished: [Option<Unfinished>; SLOTS],
+    /// Pairs taken, less pairs answered, less pairs unfinished, as multisets: a pair whose count
+    /// is zero is left out, so the two sides are equal exactly when this is empty.
+    balance: HashMap<Pair, i64>,
+}
+
+impl Books {
+    /// C, by rule 12.27.
+    pub fn taken_index(&self) -> u32 {
+        self.taken as u32
+    }
+
+    /// R, by rule 12.27.
+    fn answered_index(&self) -> u32 {
+        self.answered as u32
+    }
+
+    /// Counted one by one.
+    pub fn count_unfinished(&self) -> u32 {
+        self.unfinished.iter().flatten().count() as u32
+    }
+
+    pub fn lowest_free_tag(&self) -> Option<usize> {
+        self.unfinished.iter().position(Option::is_none)
+    }
+
+    /// Whether a tag's request is unfinished, with whatever serial.
+    pub fn is_tag_busy(&self, tag: u32) -> bool {
+        matches!(self.unfinished.get(tag as usize), Some(Some(_)))
+    }
+
+    pub fn is_busy(&self, tag: u32, serial: u32) -> bool {
+        let place = self.unfinished.get(tag as usize);
+        matches!(place, Some(Some(request)) if request.serial == serial)
+    }
+
+    fn weigh(&mut self, pair: Pair, change: i64) {
+        let count = self.balance.entry(pair).or_insert(0);
+        *count += change;
+        if *count == 0 {
+            self.balance.remove(&pair);
+        }
+    }
+
+    /// Rule 12.12: a request's pair, from the page lent.
+    pub fn take(&mut self, page: &[u8]) -> Pair {
+        let at = slot_at(self.taken_index());
+        let pair = (u64_at(page, at + 8), page[at]);
+        self.taken += 1;
+        self.weigh(pair, 1);
+        pair
+    }
+
+    /// Rule 12.15: a response's pair, from the page left.
+    pub fn answer(&mut self, page: &[u8]) {
+        let at = slot_at(self.answered_index());
+        let pair = (u64_at(page, at), page[at + 8]);
+        self.answered += 1;
+        self.weigh(pair, -1);
+    }
+
+    pub fn begin(&mut self, tag: usize, serial: u32, pair: Pair) {
+        self.unfinished[tag] = Some(Unfinished { serial, pair });
+        self.weigh(pair, -1);
+    }
+
+    pub fn finish(&mut self, tag: usize) {
+        if let Some(request) = self.unfinished[tag].take() {
+            self.weigh(request.pair, 1);
+        }
+    }
+
+    /// Rules 12.22 and 12.24: neither numbers nor pairs are lost or doubled.
+    pub fn check(&self) -> Result<(), String> {
+        let unfinished = u64::from(self.count_unfinished());
+        if self.taken != self.answered + unfinished {
+            return Err(format!(
+                "taken {} is not answered {} + unfinished {unfinished}",
+                self.taken, self.answered
+            ));
+        }
+        if !self.balance.is_empty() {
+            return Err(format!(
+                "pairs taken less answered less unfinished: {:x?}",
+                self.balance
+            ));
+        }
+        Ok(())
+    }
+}

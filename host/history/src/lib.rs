@@ -1,0 +1,325 @@
+//! Demand 3, checked from the history alone: section 12 of docs/RULES.md.
+//!
+//! [`History`] keeps books from events only, calls with what they were lent, left and answered
+//! ([`Event`]); no field of a backend is looked at. It shares no code with the second program, nor with
+//! the wrapper: what is asked of a call is written here once more, from the rules. C and R are
+//! req_cons and rsp_prod_pvt (rule 12.27).
+
+mod books;
+mod event;
+mod page;
+mod refusal;
+mod sheet;
+mod wait;
+
+pub use event::Event;
+
+use books::Books;
+use page::{
+    kind, page, turn, u32_at, DONE_PORT, DONE_WORDS, GRANTS_BYTES, PAGE_BYTES, PORTS, REQ_EVENT,
+    REQ_PROD, RINGS_BYTES, SLOTS, TURN_WORDS,
+};
+use refusal::{IN_FLIGHT, IS_CLOSED, NONE, NOT_BUSY, NOT_CLOSED, NO_PORT, WRONG_LENGTH};
+use wait::Wait;
+
+/// A port as the history shows it.
+#[derive(Clone, Copy, Debug, Default, PartialEq, Eq)]
+pub enum State {
+    /// Not opened, or closed since.
+    #[default]
+    Closed,
+    /// Opened, and neither closed nor overrun since.
+    Open,
+    /// Overrun, and not closed since.
+    Broken,
+}
+
+/// One port of the history.
+#[derive(Debug, Default)]
+struct Port {
+    state: State,
+    books: Books,
+    /// Not dropped at an opening: turns are in a row whatever other calls stand between them.
+    wait: Wait,
+}
+
+impl Port {
+    /// Rule 12.17: whether it has something to serve at a turn that is lent this page.
+    fn has_something(&self, page: &[u8]) -> bool {
+        self.state == State::Open && u32_at(page, REQ_PROD) != self.books.taken_index()
+    }
+
+    /// Rule 4.12, read with rule 12.27: whether req_prod is ahead by more than the ring has room for.
+    fn is_overrun(&self, page: &[u8]) -> bool {
+        let ahead = u32_at(page, REQ_PROD).wrapping_sub(self.books.taken_index());
+        u64::from(ahead) + u64::from(self.books.count_unfinished()) > SLOTS as u64
+    }
+}
+
+/// The history so far, and the checks over it. Once a check has failed, the books mean nothing
+/// more.
+#[derive(Debug, Default)]
+pub struct History {
+    ports: [Port; PORTS],
+    longest_wait: u32,
+}
+
+impl History {
+    /// The empty history.
+    pub fn new() -> History {
+        History::default()
+    }
+
+    /// How a port stands.
+    pub fn state(&self, port: usize) -> State {
+        self.ports[port].state
+    }
+
+    /// Requests taken since the opening.
+    pub fn taken(&self, port: usize) -> u64 {
+        self.ports[port].books.taken
+    }
+
+    /// Requests unfinished.
+    pub fn unfinished(&self, port: usize) -> u32 {
+        self.ports[port].books.count_unfinished()
+    }
+
+    /// Whether a tag's request is unfinished.
+    pub fn is_tag_busy(&self, port: usize, tag: u32) -> bool {
+        self.ports[port].books.is_tag_busy(tag)
+    }
+
+    /// The most turns in a row that a port with something to serve was passed over.
+    pub fn longest_wait(&self) -> u32 {
+        self.longest_wait
+    }
+
+    /// Adds a call to the history and checks demand 3 over the whole of it.
+    pub fn check(&mut self, event: &Event) -> Result<(), String> {
+        let (code, due) = (event.code(), self.refusal_due(event));
+        if code != due {
+            return Err(format!("the call gave {code}, due was {due}"));
+        }
+        match *event {
+            Event::Open { port, .. } if code == NONE => self.opened(port as usize),
+            Event::Close { port, .. } if code == NONE => self.closed(port as usize),
+            Event::Turn {
+                lent, left, answer, ..
+            } if code == NONE => self.turned(lent, left, answer),
+            Event::Complete {
+                left,
+                port,
+                tag,
+                answer,
+                ..
+            } if code == NONE => self.completed(left, port, tag, answer),
+            Event::Open { .. } | Event::Close { .. } => Ok(()),
+            Event::Turn { lent, left, .. } | Event::Complete { lent, left, .. } => {
+                unchanged(lent, left, "a refused call")
+            }
+        }
+    }
+
+    /// The refusal that section 7 gives, or 0, with everything counted from the history.
+    pub fn refusal_due(&self, event: &Event) -> u32 {
+        match *event {
+            Event::Open { port, sheet, .. } => match self.ports.get(port as usize) {
+                None => NO_PORT,
+                Some(known) if known.state != State::Closed => NOT_CLOSED,
+                Some(_) => sheet::refusal_due(sheet),
+            },
+            Event::Close { port, .. } => match self.ports.get(port as usize) {
+                None => NO_PORT,
+                Some(known) if known.state == State::Closed => IS_CLOSED,
+                Some(known) if known.books.count_unfinished() > 0 => IN_FLIGHT,
+                Some(_) => NONE,
+            },
+            Event::Turn { lent, grants, .. } => match (lent.len(), grants.len()) {
+                (RINGS_BYTES, GRANTS_BYTES) => NONE,
+                _ => WRONG_LENGTH,
+            },
+            Event::Complete { lent, .. } if lent.len() != RINGS_BYTES => WRONG_LENGTH,
+            Event::Complete {
+                port, tag, serial, ..
+            } => match self.ports.get(port as usize) {
+                None => NO_PORT,
+                Some(known) if known.state == State::Closed => IS_CLOSED,
+                Some(known) if !known.books.is_busy(tag, serial) => NOT_BUSY,
+                Some(_) => NONE,
+            },
+        }
+    }
+
+    /// An opening begins new books.
+    fn opened(&mut self, port: usize) -> Result<(), String> {
+        self.ports[port].state = State::Open;
+        self.ports[port].books = Books::default();
+        Ok(())
+    }
+
+    fn closed(&mut self, port: usize) -> Result<(), String> {
+        self.ports[port].state = State::Closed;
+        Ok(())
+    }
+
+    fn turned(
+        &mut self,
+        lent: &[u8],
+        left: &[u8],
+        answer: &[u64; TURN_WORDS],
+    ) -> Result<(), String> {
+        same_length(lent, left)?;
+        let something: [bool; PORTS] =
+            std::array::from_fn(|port| self.ports[port].has_something(page(lent, port)));
+        let served = match answer[turn::KIND] {
+            kind::IDLE => None,
+            kind::STARTED..=kind::OVERRUN => Some(port_number(answer[turn::PORT])?),
+            kind => return Err(format!("a turn's answer of kind {kind}")),
+        };
+        match served {
+            None => self.idled(lent, left, &something)?,
+            Some(port) if !something[port] => {
+                return Err(format!("port {port} is served with nothing to serve"))
+            }
+            Some(port) => self.served(port, lent, left, answer)?,
+        }
+        self.wait_on(&something, served)
+    }
+
+    /// Fairness, over the turns so far.
+    fn wait_on(&mut self, something: &[bool; PORTS], served: Option<usize>) -> Result<(), String> {
+        for (number, port) in self.ports.iter_mut().enumerate() {
+            if something[number] && served != Some(number) {
+                port.wait
+                    .another_turn(served)
+                    .map_err(|fault| format!("port {number}: {fault}"))?;
+                self.longest_wait = self.longest_wait.max(port.wait.turns);
+            } else {
+                port.wait = Wait::default();
+            }
+        }
+        Ok(())
+    }
+
+    /// Idle exactly when no port has something to serve, with the one change of rules 5.8 and 5.9.
+    fn idled(&self, lent: &[u8], left: &[u8], something: &[bool; PORTS]) -> Result<(), String> {
+        if let Some(port) = something.iter().position(|&has| has) {
+            return Err(format!("idle, but port {port} has something to serve"));
+        }
+        for (number, port) in self.ports.iter().enumerate() {
+            let mut due = [0; PAGE_BYTES];
+            due.copy_from_slice(page(lent, number));
+            if port.state == State::Open {
+                let event = port.books.taken_index().wrapping_add(1);
+                due[REQ_EVENT..REQ_EVENT + 4].copy_from_slice(&event.to_le_bytes());
+            }
+            unchanged(&due, page(left, number), "an idle turn, req_event aside")?;
+        }
+        Ok(())
+    }
+
+    /// Rules 12.10 and 12.11: whom a turn serves, and what it takes.
+    fn served(
+        &mut self,
+        number: usize,
+        lent: &[u8],
+        left: &[u8],
+        answer: &[u64; TURN_WORDS],
+    ) -> Result<(), String> {
+        let port = &mut self.ports[number];
+        let overrun_due = port.is_overrun(page(lent, number));
+        if overrun_due != (answer[turn::KIND] == kind::OVERRUN) {
+            return Err(format!(
+                "port {number}: an overrun was {}due, the answer's kind is {}",
+                if overrun_due { "" } else { "not " },
+                answer[turn::KIND]
+            ));
+        }
+        match answer[turn::KIND] {
+            kind::STARTED => started(&mut port.books, page(lent, number), answer)?,
+            kind::ANSWERED => {
+                answered_at_once(&mut port.books, page(lent, number), page(left, number))
+            }
+            _ => {
+                port.state = State::Broken;
+                unchanged(lent, left, "an overrun")?;
+            }
+        }
+        port.books
+            .check()
+            .map_err(|fault| format!("port {number}: {fault}"))
+    }
+
+    /// Rule 12.14: the response is the newest such request's. Serials repeat only after 2^32 requests and a
+    /// busy tag is not named again, so an unfinished request of that tag and serial is the newest
+    /// one; any other would be answered twice, and was due to be refused with 6.
+    fn completed(
+        &mut self,
+        left: &[u8],
+        port: u32,
+        tag: u32,
+        answer: &[u64; DONE_WORDS],
+    ) -> Result<(), String> {
+        if left.len() != RINGS_BYTES {
+            return Err("the rings left have another length".into());
+        }
+        let named = answer[DONE_PORT];
+        if named != u64::from(port) {
+            return Err(format!("the completion of port {port} names {named}"));
+        }
+        let books = &mut self.ports[port as usize].books;
+        books.finish(tag as usize);
+        books.answer(page(left, port as usize));
+        books
+            .check()
+            .map_err(|fault| format!("port {port}: {fault}"))
+    }
+}
+
+/// Rule 12.26, of a start: the lowest free tag, and C as it was before.
+fn started(books: &mut Books, page: &[u8], answer: &[u64; TURN_WORDS]) -> Result<(), String> {
+    let serial = books.taken_index();
+    let Some(tag) = books.lowest_free_tag() else {
+        return Err("a start with 32 requests unfinished".into());
+    };
+    let named = (answer[turn::TAG], answer[turn::SERIAL]);
+    if named != (tag as u64, u64::from(serial)) {
+        return Err(format!(
+            "a start names tag {} and serial {}, due were {tag} and {serial}",
+            named.0, named.1
+        ));
+    }
+    let pair = books.take(page);
+    books.begin(tag, serial, pair);
+    Ok(())
+}
+
+/// Rule 12.13.
+fn answered_at_once(books: &mut Books, lent: &[u8], left: &[u8]) {
+    books.take(lent);
+    books.answer(left);
+}
+
+fn port_number(word: u64) -> Result<usize, String> {
+    match usize::try_from(word) {
+        Ok(port) if port < PORTS => Ok(port),
+        _ => Err(format!("a turn's answer names port {word}")),
+    }
+}
+
+fn same_length(lent: &[u8], left: &[u8]) -> Result<(), String> {
+    if lent.len() == left.len() {
+        Ok(())
+    } else {
+        Err("the rings left have another length".into())
+    }
+}
+
+fn unchanged(lent: &[u8], left: &[u8], what: &str) -> Result<(), String> {
+    if lent == left {
+        Ok(())
+    } else {
+        Err(format!("{what} changed bytes of the rings"))
+    }
+}

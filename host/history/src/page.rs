@@ -1,0 +1,57 @@
+//! Where the checker looks: places in pages, slots and answers, and numbers in bytes.
+
+pub const PORTS: usize = 8;
+pub const PAGE_BYTES: usize = 4096;
+pub const RINGS_BYTES: usize = PORTS * PAGE_BYTES;
+pub const GRANTS_BYTES: usize = PORTS * 1024;
+pub const REQ_PROD: usize = 0;
+pub const REQ_EVENT: usize = 4;
+pub const SLOTS: usize = 32;
+/// Words of the answers.
+pub const TURN_WORDS: usize = 64;
+pub const DONE_WORDS: usize = 4;
+
+/// Words of a turn's answer.
+pub mod turn {
+    pub const KIND: usize = 0;
+    pub const PORT: usize = 1;
+    pub const TAG: usize = 2;
+    pub const SERIAL: usize = 3;
+}
+
+/// What a turn did, as its answer has it.
+pub mod kind {
+    pub const IDLE: u64 = 0;
+    pub const STARTED: u64 = 1;
+    pub const ANSWERED: u64 = 2;
+    pub const OVERRUN: u64 = 3;
+}
+
+/// The word of a completion's answer that names the port.
+pub const DONE_PORT: usize = 0;
+
+/// A port's page of the rings.
+pub fn page(rings: &[u8], port: usize) -> &[u8] {
+    let mut pages = rings.chunks_exact(PAGE_BYTES);
+    pages.nth(port).expect("a page a port")
+}
+
+/// Where the slot of an index begins.
+pub fn slot_at(index: u32) -> usize {
+    64 + 112 * (index as usize % SLOTS)
+}
+
+/// A little-endian number.
+pub fn u32_at(bytes: &[u8], at: usize) -> u32 {
+    number(&bytes[at..at + 4]) as u32
+}
+
+/// A little-endian number.
+pub fn u64_at(bytes: &[u8], at: usize) -> u64 {
+    number(&bytes[at..at + 8])
+}
+
+fn number(bytes: &[u8]) -> u64 {
+    let from_the_top = bytes.iter().rev();
+    from_the_top.fold(0, |sum, &byte| sum << 8 | u64::from(byte))
+}

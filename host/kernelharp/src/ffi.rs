@@ -1,0 +1,272 @@
+//! All that needs `unsafe`: the archive's C functions over backend memory, and the words of a page
+//! that a guest writes at the same time.
+
+use crate::layout::PAGE_BYTES;
+use crate::names::Name;
+use crate::words::{DoneWords, TurnWords};
+use std::fmt;
+use std::ptr::NonNull;
+use std::sync::atomic::AtomicU32;
+
+/// The version that this package was built for, as `kh_version` gives it: major x 10,000 + minor x
+/// 100 + patch.
+pub const VERSION: u32 = 200;
+/// How many words of backend memory this package was built for (`KH_MEMORY_WORDS`).
+pub const MEMORY_WORDS: usize = 1121;
+
+extern "C" {
+    fn kh_version() -> u32;
+    fn kh_memory_words() -> u32;
+    fn kh_open(memory: *mut u64, port: u32, sheet: *const u8, sheet_bytes: usize) -> u32;
+    fn kh_close(memory: *mut u64, port: u32) -> u32;
+    fn kh_turn(
+        memory: *mut u64,
+        rings: *mut u8,
+        rings_bytes: usize,
+        grants: *const u8,
+        grants_bytes: usize,
+        answer: *mut u64,
+    ) -> u32;
+    fn kh_complete(
+        memory: *mut u64,
+        rings: *mut u8,
+        rings_bytes: usize,
+        port: u32,
+        tag: u32,
+        serial: u32,
+        result: i32,
+        answer: *mut u64,
+    ) -> u32;
+}
+
+/// The archive that was linked is another than this package was built for.
+#[derive(Clone, Copy, Debug, PartialEq, Eq)]
+pub struct ArchiveMismatch {
+    /// What `kh_version` answered; [`VERSION`] was due.
+    pub version: u32,
+    /// What `kh_memory_words` answered; [`MEMORY_WORDS`] was due.
+    pub memory_words: u32,
+}
+
+impl fmt::Display for ArchiveMismatch {
+    fn fmt(&self, f: &mut fmt::Formatter) -> fmt::Result {
+        let ArchiveMismatch {
+            version,
+            memory_words,
+        } = self;
+        write!(
+            f,
+            "the archive is of version {version} with {memory_words} memory words, not of version {VERSION} with {MEMORY_WORDS}"
+        )
+    }
+}
+
+impl std::error::Error for ArchiveMismatch {}
+
+/// What a completion names, in numbers, and the host's result (rule 6.8).
+#[derive(Clone, Copy, Debug, PartialEq, Eq)]
+pub struct Completion {
+    /// The port named.
+    pub port: u32,
+    /// The tag named.
+    pub tag: u32,
+    /// The serial named.
+    pub serial: u32,
+    /// The host's result.
+    pub result: i32,
+}
+
+impl Completion {
+    /// The completion of a request by its name.
+    pub fn of(name: Name, result: i32) -> Completion {
+        Completion {
+            port: name.port.number(),
+            tag: name.tag.0,
+            serial: name.serial.0,
+            result,
+        }
+    }
+}
+
+/// Backend memory, with the archive's calls over it: they lend slices of any length, and give 0 when
+/// done, else the refusal's number; a refused call leaves all that was lent, the answer included.
+/// There is one only where the archive is the one that this package was built for.
+#[derive(Clone, Debug, PartialEq, Eq)]
+pub struct Memory {
+    words: Box<[u64; MEMORY_WORDS]>,
+}
+
+impl Memory {
+    /// The empty backend: all words zero.
+    pub fn new() -> Result<Memory, ArchiveMismatch> {
+        // SAFETY: the functions have no arguments and touch no memory of ours.
+        let (version, memory_words) = unsafe { (kh_version(), kh_memory_words()) };
+        check_archive(version, memory_words)?;
+        let words = Box::new([0; MEMORY_WORDS]);
+        Ok(Memory { words })
+    }
+
+    /// The words, to be looked at or stored.
+    pub fn words(&self) -> &[u64; MEMORY_WORDS] {
+        &self.words
+    }
+
+    /// The words, to be put back. Whatever they hold, the calls stay within what they are lent.
+    pub fn words_mut(&mut self) -> &mut [u64; MEMORY_WORDS] {
+        &mut self.words
+    }
+
+    /// `kh_open`
+    pub fn open(&mut self, port: u32, sheet: &[u8]) -> u32 {
+        // SAFETY: `memory` is MEMORY_WORDS words long, which the constructor has held against the
+        // archive; the sheet's pointer and length are one slice's.
+        unsafe { kh_open(self.words.as_mut_ptr(), port, sheet.as_ptr(), sheet.len()) }
+    }
+
+    /// `kh_close`
+    pub fn close(&mut self, port: u32) -> u32 {
+        // SAFETY: `memory` as in `open`.
+        unsafe { kh_close(self.words.as_mut_ptr(), port) }
+    }
+
+    /// `kh_turn`
+    pub fn turn(&mut self, rings: &mut [u8], grants: &[u8], answer: &mut TurnWords) -> u32 {
+        let (memory, answer) = (self.words.as_mut_ptr(), answer.as_mut_ptr());
+        let (pages, pages_bytes) = (rings.as_mut_ptr(), rings.len());
+        // SAFETY: `memory` as in `open`; each pointer and length are one slice's; the answer has
+        // its fixed length; and no two of them overlap, for all that is written is lent by &mut.
+        unsafe {
+            kh_turn(
+                memory,
+                pages,
+                pages_bytes,
+                grants.as_ptr(),
+                grants.len(),
+                answer,
+            )
+        }
+    }
+
+    /// `kh_complete`
+    pub fn complete(&mut self, rings: &mut [u8], named: Completion, answer: &mut DoneWords) -> u32 {
+        let (memory, answer) = (self.words.as_mut_ptr(), answer.as_mut_ptr());
+        let (pages, pages_bytes) = (rings.as_mut_ptr(), rings.len());
+        let Completion {
+            port,
+            tag,
+            serial,
+            result,
+        } = named;
+        // SAFETY: as in `turn`.
+        unsafe {
+            kh_complete(
+                memory,
+                pages,
+                pages_bytes,
+                port,
+                tag,
+                serial,
+                result,
+                answer,
+            )
+        }
+    }
+}
+
+fn check_archive(version: u32, memory_words: u32) -> Result<(), ArchiveMismatch> {
+    if version == VERSION && memory_words as usize == MEMORY_WORDS {
+        return Ok(());
+    }
+    Err(ArchiveMismatch {
+        version,
+        memory_words,
+    })
+}
+
+/// The bytes of a word of a page.
+pub(crate) const WORD_BYTES: usize = 4;
+/// The words of a page.
+pub const PAGE_WORDS: usize = PAGE_BYTES / WORD_BYTES;
+
+/// A guest's ring page where this program has it mapped.
+///
+/// There is never a slice or a reference over the page: it is read and written one aligned word at
+/// a time, volatile, so that no access is doubled, left out or torn.
+#[derive(Debug)]
+pub struct Mapping {
+    page: NonNull<u32>,
+}
+
+// SAFETY: `new` asks that the page stays valid wherever the value goes, and all that is reached
+// through the pointer is read and written by volatile accesses.
+unsafe impl Send for Mapping {}
+
+impl Mapping {
+    /// A page that was mapped.
+    ///
+    /// # Safety
+    ///
+    /// As long as the value lives, `page` points to 4,096 bytes, aligned to 4, that may be read and
+    /// written; this program has no reference to any of them but to atomics; and where a thread of
+    /// this program plays the guest, it too goes by volatile or atomic accesses.
+    pub unsafe fn new(page: NonNull<u8>) -> Mapping {
+        let page = page.cast::<u32>();
+        assert!(page.is_aligned(), "a ring page is aligned");
+        Mapping { page }
+    }
+
+    /// A page of this program's own, whose guest is a thread of it.
+    pub fn of_atomics(page: &'static [AtomicU32; PAGE_WORDS]) -> Mapping {
+        // SAFETY: the page is never freed, has as many words and their alignment, and whoever else
+        // reaches it does so by atomics, which may be written through shared references.
+        unsafe { Mapping::new(NonNull::from(page).cast()) }
+    }
+
+    /// The word at a multiple of four, as the page's bytes have it.
+    pub(crate) fn load(&self, at: usize) -> u32 {
+        // SAFETY: a word of the page, which `new` asks to be readable; any bits are a word.
+        unsafe { self.place(at).read_volatile() }
+    }
+
+    /// Writes the word at a multiple of four.
+    pub(crate) fn store(&self, at: usize, word: u32) {
+        // SAFETY: a word of the page, which `new` asks to be writable.
+        unsafe { self.place(at).write_volatile(word) }
+    }
+
+    fn place(&self, at: usize) -> *mut u32 {
+        let word = at / WORD_BYTES;
+        assert!(at % WORD_BYTES == 0 && word < PAGE_WORDS, "a word at {at}");
+        self.page.as_ptr().wrapping_add(word)
+    }
+}
+
+#[cfg(test)]
+mod tests {
+    use super::*;
+
+    #[test]
+    fn the_version_is_that_of_the_package() {
+        let parts = [
+            env!("CARGO_PKG_VERSION_MAJOR"),
+            env!("CARGO_PKG_VERSION_MINOR"),
+            env!("CARGO_PKG_VERSION_PATCH"),
+        ];
+        let version = parts.iter().fold(0, |version, part| {
+            100 * version + part.parse::<u32>().unwrap()
+        });
+        assert_eq!(VERSION, version);
+    }
+
+    #[test]
+    fn another_archive_is_told() {
+        let words = MEMORY_WORDS as u32;
+        assert_eq!(check_archive(VERSION, words), Ok(()));
+        for (version, memory_words) in [(VERSION + 1, words), (100, words), (VERSION, words - 1)] {
+            let fault = check_archive(version, memory_words).unwrap_err();
+            assert_eq!((fault.version, fault.memory_words), (version, memory_words));
+            let told = format!("version {version} with {memory_words} memory words");
+            assert!(fault.to_string().contains(&told));
+        }
+    }
+}

@@ -1,0 +1,35 @@
+//! Kernelharp for hosts in Rust: the request core of a Xen block backend, whose calls are proved.
+//!
+//! - [`Backend`]: the four calls over private buffers that it owns, with typed answers ([`Turn`],
+//!   [`Plan`], [`Done`]) and refusals as errors ([`Refusal`]).
+//! - [`live`]: the same over ring pages that guests may write at the same time.
+//! - [`Sheet`]: node sheets from a disk's properties.
+//! - [`Memory`]: the C functions over slices of any length, for tests and for hosts with buffers of
+//!   their own; its answers are words, which [`words`] names.
+//! - [`layout`]: sizes and places of buffers, pages and slots.
+//!
+//! What is numbered here goes by the same names as in the C header: [`Refusal`], [`Reason`],
+//! [`Status`], [`Operation`]. Enums that may grow are `non_exhaustive`: a host says what it does
+//! with an answer that it does not know. Rules are those of docs/RULES.md in the library's repository.
+//!
+//! The build links `libkernelharp.a`: the file that the variable `KERNELHARP_ARCHIVE` names, else the
+//! one that pkg-config knows as `kernelharp`. [`Backend::new`] refuses an archive of another version
+//! than this package.
+
+mod answers;
+mod backend;
+#[allow(unsafe_code)]
+mod ffi;
+pub mod layout;
+pub mod live;
+mod names;
+mod sheet;
+mod terms;
+pub mod words;
+
+pub use answers::{Done, Extent, Plan, Turn};
+pub use backend::Backend;
+pub use ffi::{ArchiveMismatch, Completion, Memory, MEMORY_WORDS, VERSION};
+pub use names::{Name, Port, Serial, Tag};
+pub use sheet::Sheet;
+pub use terms::{Operation, Reason, Refusal, Status};

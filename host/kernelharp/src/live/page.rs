@@ -1,0 +1,167 @@
+//! One ring page that a guest may write at the same time.
+
+use crate::ffi::{Mapping, WORD_BYTES};
+use crate::layout::{
+    read_u32, slot_at, write_u32, PAGE_BYTES, REQ_EVENT, REQ_PROD, RESPONSE_BYTES, RSP_EVENT,
+    RSP_PROD, SLOTS, SLOT_BYTES,
+};
+use std::sync::atomic::{fence, Ordering};
+
+/// A live ring page, and what the host itself counts of its port.
+///
+/// The page lent to a call is the private one, which stands for the guest's as it is at that call
+/// (rules 1.6 and 5.15). A request that was copied and still waits stays there and is not copied again:
+/// a sound guest leaves it alone. So the private page given must be the same at each call. A guest that
+/// takes requests back, its req_prod seen behind them or beyond the ring, has what waits later copied
+/// anew.
+///
+/// The fences stand where ring.h has its barriers, and do on x86-64, which the archive is for, what
+/// those do.
+#[derive(Debug)]
+pub struct SharedPage {
+    page: Mapping,
+    /// Requests taken since the opening (rule 4.2).
+    req_cons: u32,
+    /// Responses given since the opening (rule 4.2).
+    rsp_prod_pvt: u32,
+    /// Requests before this index are in the private page.
+    copied: u32,
+    broken: bool,
+}
+
+impl SharedPage {
+    /// The page of a port about to be opened.
+    pub fn new(page: Mapping) -> SharedPage {
+        SharedPage {
+            page,
+            req_cons: 0,
+            rsp_prod_pvt: 0,
+            copied: 0,
+            broken: false,
+        }
+    }
+
+    /// Counts from 0 again, for a port opened anew. Nothing of an earlier opening stays in the private
+    /// page: a turn before the first copy would serve it.
+    pub fn restart(&mut self, private: &mut [u8; PAGE_BYTES]) {
+        self.req_cons = 0;
+        self.rsp_prod_pvt = 0;
+        self.copied = 0;
+        self.broken = false;
+        private.fill(0);
+    }
+
+    /// Before a turn: req_prod, the requests not yet copied, and rsp_event. A broken port is served
+    /// no more, so nothing is read of its page.
+    pub fn copy_in(&mut self, private: &mut [u8; PAGE_BYTES]) {
+        if self.broken {
+            return;
+        }
+        let req_prod = self.load(REQ_PROD);
+        // A request is read after the index that published it.
+        fence(Ordering::Acquire);
+        write_u32(private, REQ_PROD, req_prod);
+        self.copy_requests_in(req_prod, private);
+        self.copy_rsp_event_in(private);
+    }
+
+    /// Before a completion: rsp_event, the one guest word that it reads.
+    pub fn copy_rsp_event_in(&self, private: &mut [u8; PAGE_BYTES]) {
+        write_u32(private, RSP_EVENT, self.load(RSP_EVENT));
+    }
+
+    /// After a turn that took a request, started or answered.
+    pub fn took_request(&mut self) {
+        self.req_cons = self.req_cons.wrapping_add(1);
+    }
+
+    /// After a turn that answered overrun.
+    pub fn overran(&mut self) {
+        self.broken = true;
+    }
+
+    /// After an idle turn: req_event, which the turn wrote for open ports alone. The fence and the
+    /// second turn that follow are for all ports at once, so they are the caller's.
+    pub fn copy_req_event_out(&self, private: &[u8; PAGE_BYTES]) {
+        if !self.broken {
+            self.copy_word_out(REQ_EVENT, private);
+        }
+    }
+
+    /// After a call that gave a response (a completion, or a turn that answered): the response, then
+    /// rsp_prod. Says whether the guest is to be notified, with what the call said about it.
+    #[must_use = "a guest that is not notified may sleep for ever"]
+    pub fn copy_response_out(&mut self, private: &[u8; PAGE_BYTES], call_said: bool) -> bool {
+        let old = self.rsp_prod_pvt;
+        let new = old.wrapping_add(1);
+        for at in words_of(slot_at(old), RESPONSE_BYTES) {
+            self.copy_word_out(at, private);
+        }
+        // The response is there before the index that publishes it.
+        fence(Ordering::Release);
+        self.copy_word_out(RSP_PROD, private);
+        self.rsp_prod_pvt = new;
+        // The index is out before the guest's wish is looked at again: it may have gone to sleep
+        // since the call's look.
+        fence(Ordering::SeqCst);
+        let rsp_event = self.load(RSP_EVENT);
+        call_said || lies_within(rsp_event, old, new)
+    }
+
+    /// The requests between the last one copied and req_prod. Beyond the ring there are none: the
+    /// turn finds the overrun by req_prod alone, and should req_prod come back before that turn, what
+    /// then waits is copied anew.
+    fn copy_requests_in(&mut self, req_prod: u32, private: &mut [u8; PAGE_BYTES]) {
+        let in_flight = self.req_cons.wrapping_sub(self.rsp_prod_pvt);
+        let waiting = req_prod.wrapping_sub(self.req_cons);
+        if waiting > (SLOTS as u32).saturating_sub(in_flight) {
+            self.copied = self.req_cons;
+            return;
+        }
+        // Fewer than were copied when the guest has moved req_prod back.
+        let held = self.copied.wrapping_sub(self.req_cons).min(waiting);
+        for ahead in held..waiting {
+            let slot = slot_at(self.req_cons.wrapping_add(ahead));
+            for at in words_of(slot, SLOT_BYTES) {
+                write_u32(private, at, self.load(at));
+            }
+        }
+        self.copied = req_prod;
+    }
+
+    /// Copies one word of the private page out.
+    fn copy_word_out(&self, at: usize, private: &[u8; PAGE_BYTES]) {
+        self.page.store(at, read_u32(private, at).to_le());
+    }
+
+    /// The number in one word of the live page.
+    fn load(&self, at: usize) -> u32 {
+        u32::from_le(self.page.load(at))
+    }
+}
+
+/// Where the words of so many bytes begin.
+fn words_of(at: usize, bytes: usize) -> impl Iterator<Item = usize> {
+    (at..at + bytes).step_by(WORD_BYTES)
+}
+
+/// Whether an index lies in (old, new], around the wrap too.
+fn lies_within(index: u32, old: u32, new: u32) -> bool {
+    new.wrapping_sub(index) < new.wrapping_sub(old)
+}
+
+#[cfg(test)]
+mod tests {
+    use super::lies_within;
+
+    #[test]
+    fn within_old_and_new() {
+        assert!(lies_within(6, 5, 6));
+        assert!(!lies_within(5, 5, 6));
+        assert!(!lies_within(7, 5, 6));
+        assert!(lies_within(6, 5, 9) && lies_within(9, 5, 9));
+        assert!(!lies_within(5, 5, 9) && !lies_within(10, 5, 9));
+        assert!(lies_within(0, u32::MAX, 0) && !lies_within(u32::MAX, u32::MAX, 0));
+        assert!(!lies_within(5, 5, 5));
+    }
+}

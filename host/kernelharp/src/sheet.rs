@@ -1,0 +1,55 @@
+//! Node sheets written from a disk's properties.
+
+/// What a port is opened with: the properties of its guest's disk.
+///
+/// ```
+/// use kernelharp::Sheet;
+///
+/// let sheet = Sheet { writable: true, sector_size: 512, sectors: 2008, ..Sheet::default() };
+/// assert_eq!(sheet.bytes(), b"\x03\x01\0\x01\0\x06\0\x03\0\x07\0\x04\0w5122008");
+/// ```
+#[derive(Clone, Copy, Debug, Default, PartialEq, Eq)]
+pub struct Sheet {
+    /// Node mode: "w", else "r".
+    pub writable: bool,
+    /// Node feature-barrier.
+    pub barrier: bool,
+    /// Node feature-flush-cache.
+    pub flush: bool,
+    /// Node feature-discard.
+    pub discard: bool,
+    /// Node discard-secure.
+    pub secure_discard: bool,
+    /// Node sector-size: 512, 1024, 2048 or 4096.
+    pub sector_size: u32,
+    /// Node sectors, of 512 bytes whatever the sector size.
+    pub sectors: u64,
+}
+
+impl Sheet {
+    /// The bytes for `open`. A feature that is off has no node.
+    pub fn bytes(&self) -> Vec<u8> {
+        let mode = if self.writable { "w" } else { "r" };
+        let mut entries = vec![(1, mode.to_string())];
+        let features = [self.barrier, self.flush, self.discard, self.secure_discard];
+        for (node, on) in (2..).zip(features) {
+            if on {
+                entries.push((node, "1".to_string()));
+            }
+        }
+        entries.push((6, self.sector_size.to_string()));
+        entries.push((7, self.sectors.to_string()));
+        contents(&entries)
+            .chain(entries.iter().flat_map(|(_, body)| body.bytes()))
+            .collect()
+    }
+}
+
+/// The table of contents: the number of entries, then node, zero and body length of each.
+fn contents(entries: &[(u8, String)]) -> impl Iterator<Item = u8> + '_ {
+    let heads = entries.iter().flat_map(|(node, body)| {
+        // A body here is a number or a letter.
+        [*node, 0, body.len() as u8, 0]
+    });
+    std::iter::once(entries.len() as u8).chain(heads)
+}

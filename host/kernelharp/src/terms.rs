@@ -1,0 +1,199 @@
+//! The rules' numbers by name: refusals, reasons, statuses and operations.
+
+use std::fmt;
+
+/// An enum of numbers, each with its words.
+macro_rules! numbered {
+    (
+        $(#[$attribute:meta])*
+        $name:ident, $kind:literal:
+        $($case:ident = $number:literal, $words:literal;)*
+    ) => {
+        $(#[$attribute])*
+        #[derive(Clone, Copy, Debug, PartialEq, Eq, Hash)]
+        #[repr(u32)]
+        #[non_exhaustive]
+        pub enum $name {
+            $(#[doc = $words] $case = $number,)*
+        }
+
+        impl $name {
+            /// The one of a number.
+            pub fn from_number(number: u32) -> Option<$name> {
+                match number {
+                    $($number => Some($name::$case),)*
+                    _ => None,
+                }
+            }
+
+            /// When it is given, in short.
+            pub fn words(self) -> &'static str {
+                match self {
+                    $($name::$case => $words,)*
+                }
+            }
+        }
+
+        impl fmt::Display for $name {
+            fn fmt(&self, f: &mut fmt::Formatter) -> fmt::Result {
+                write!(f, "{} {}: {}", $kind, *self as u32, self.words())
+            }
+        }
+    };
+}
+
+numbered! {
+    /// What a refused call answers (section 7 of the rules).
+    Refusal, "refusal":
+    WrongLength = 1, "a lent buffer has the wrong length";
+    NoPort = 2, "port above 7";
+    NotClosed = 3, "port not closed";
+    IsClosed = 4, "port closed";
+    InFlight = 5, "requests in flight";
+    NotBusy = 6, "tag above 31, not busy, or another serial";
+    SheetShape = 11, "sheet empty, more than 9 entries, a reserved byte not 0, wrong total length";
+    SheetNodes = 12, "node 0, above 9, or not rising";
+    SheetText = 13, "a text that node 1 to 5 or 8 does not know, or no number in 6, 7 or 9";
+    SheetNumber = 14, "a number that node 6, 7 or 9 does not allow";
+    SheetMissing = 15, "node 1, 6 or 7 missing";
+}
+
+impl std::error::Error for Refusal {}
+
+numbered! {
+    /// Why a guest's request gets its response at once and does not start (section 8 of the
+    /// rules).
+    Reason, "reason":
+    UnknownOperation = 21, "unknown operation";
+    FeatureOff = 22, "the feature of a barrier, flush or discard is 0";
+    SecureOff = 23, "secure discard, and discard-secure is 0";
+    ReadOnly = 24, "write, barrier or discard, mode r";
+    WrongAmount = 25, "n out of range for the operation, or a discard of 0 sectors";
+    WrongSegment = 26, "a segment without first <= last <= 7";
+    NotGranted = 27, "a frame not granted as needed";
+    PastEnd = 28, "start + count above sectors, as whole numbers";
+    Unaligned = 29, "start or count not divisible by sector-size / 512";
+}
+
+impl Reason {
+    /// The status that goes with it: not supported for 21 to 23, error for the others.
+    pub fn status(self) -> Status {
+        match self {
+            Reason::UnknownOperation | Reason::FeatureOff | Reason::SecureOff => {
+                Status::NotSupported
+            }
+            _ => Status::Error,
+        }
+    }
+}
+
+/// The status of a response (rule 2.12).
+#[derive(Clone, Copy, Debug, PartialEq, Eq, Hash)]
+#[repr(i16)]
+pub enum Status {
+    /// 0
+    Okay = 0,
+    /// -1
+    Error = -1,
+    /// -2
+    NotSupported = -2,
+}
+
+impl Status {
+    /// The status as the answers' words carry it: 0, 1 or 2.
+    pub fn magnitude(self) -> u64 {
+        u64::from((self as i16).unsigned_abs())
+    }
+
+    /// The status of a magnitude.
+    pub fn from_magnitude(magnitude: u64) -> Option<Status> {
+        let all = [Status::Okay, Status::Error, Status::NotSupported];
+        all.into_iter().find(|it| it.magnitude() == magnitude)
+    }
+}
+
+impl fmt::Display for Status {
+    fn fmt(&self, f: &mut fmt::Formatter) -> fmt::Result {
+        f.write_str(match self {
+            Status::Okay => "status 0 (okay)",
+            Status::Error => "status -1 (error)",
+            Status::NotSupported => "status -2 (not supported)",
+        })
+    }
+}
+
+/// The operations that are known (rule 2.13).
+#[derive(Clone, Copy, Debug, PartialEq, Eq, Hash)]
+#[repr(u8)]
+#[non_exhaustive]
+pub enum Operation {
+    /// 0
+    Read = 0,
+    /// 1
+    Write = 1,
+    /// 2
+    Barrier = 2,
+    /// 3
+    Flush = 3,
+    /// 5
+    Discard = 5,
+}
+
+impl Operation {
+    /// None for an unknown operation (rule 2.14).
+    pub fn from_byte(byte: u8) -> Option<Operation> {
+        match byte {
+            0 => Some(Operation::Read),
+            1 => Some(Operation::Write),
+            2 => Some(Operation::Barrier),
+            3 => Some(Operation::Flush),
+            5 => Some(Operation::Discard),
+            _ => None,
+        }
+    }
+}
+
+impl fmt::Display for Operation {
+    fn fmt(&self, f: &mut fmt::Formatter) -> fmt::Result {
+        f.write_str(match self {
+            Operation::Read => "read",
+            Operation::Write => "write",
+            Operation::Barrier => "barrier",
+            Operation::Flush => "flush",
+            Operation::Discard => "discard",
+        })
+    }
+}
+
+#[cfg(test)]
+mod tests {
+    use super::*;
+
+    #[test]
+    fn numbers_lead_back_to_their_names() {
+        let refusals: Vec<u32> = (0..100)
+            .filter_map(Refusal::from_number)
+            .map(|refusal| refusal as u32)
+            .collect();
+        assert_eq!(refusals, [1, 2, 3, 4, 5, 6, 11, 12, 13, 14, 15]);
+        let reasons: Vec<u32> = (0..100)
+            .filter_map(Reason::from_number)
+            .map(|reason| reason as u32)
+            .collect();
+        assert_eq!(reasons, [21, 22, 23, 24, 25, 26, 27, 28, 29]);
+        let statuses: Vec<i16> = (0..100)
+            .filter_map(Status::from_magnitude)
+            .map(|status| status as i16)
+            .collect();
+        assert_eq!(statuses, [0, -1, -2]);
+    }
+
+    #[test]
+    fn a_refusal_prints_number_and_words() {
+        let refusal: Box<dyn std::error::Error> = Box::new(Refusal::NotBusy);
+        let due = "refusal 6: tag above 31, not busy, or another serial";
+        assert_eq!(refusal.to_string(), due);
+        let reason = "reason 27: a frame not granted as needed";
+        assert_eq!(Reason::NotGranted.to_string(), reason);
+    }
+}

@@ -1,0 +1,77 @@
+//! The words of the calls' answers, by name.
+
+/// How many words a turn answers with.
+pub const TURN_WORDS: usize = 64;
+/// How many words a completion answers with.
+pub const DONE_WORDS: usize = 4;
+
+/// A turn's answer.
+pub type TurnWords = [u64; TURN_WORDS];
+/// A completion's answer.
+pub type DoneWords = [u64; DONE_WORDS];
+
+/// Places in a turn's answer. What the kind does not use is 0.
+pub mod turn {
+    /// What the turn did, see [`super::kind`].
+    pub const KIND: usize = 0;
+    /// The port; of all kinds but idle.
+    pub const PORT: usize = 1;
+    /// Of a start, like all up to the number of extents: the tag.
+    pub const TAG: usize = 2;
+    /// The serial.
+    pub const SERIAL: usize = 3;
+    /// The operation's number.
+    pub const OPERATION: usize = 4;
+    /// The first sector on the disk.
+    pub const START: usize = 5;
+    /// How many sectors.
+    pub const COUNT: usize = 6;
+    /// The secure mark, 0 or 1.
+    pub const SECURE: usize = 7;
+    /// How many extents.
+    pub const EXTENT_COUNT: usize = 8;
+    /// Of a request answered at once, like the next two: the reason's number.
+    pub const REASON: usize = 9;
+    /// The status without its sign.
+    pub const STATUS: usize = 10;
+    /// Whether the guest is to be notified, 0 or 1.
+    pub const NOTIFY: usize = 11;
+    /// Of a start: the first extent; the others follow it.
+    pub const EXTENTS: usize = 16;
+}
+
+/// What a turn did.
+pub mod kind {
+    /// No port had something to serve.
+    pub const IDLE: u64 = 0;
+    /// A request was started.
+    pub const STARTED: u64 = 1;
+    /// A request failed a check and was answered.
+    pub const ANSWERED: u64 = 2;
+    /// A port has an overrun.
+    pub const OVERRUN: u64 = 3;
+}
+
+/// Places in an extent of a turn's answer.
+pub mod extent {
+    /// The guest frame.
+    pub const FRAME: usize = 0;
+    /// The first sector within the frame.
+    pub const FIRST: usize = 1;
+    /// How many sectors.
+    pub const LENGTH: usize = 2;
+    /// Where they begin on the disk.
+    pub const SECTOR: usize = 3;
+    /// How many words an extent has.
+    pub const WORDS: usize = 4;
+}
+
+/// Places in a completion's answer; its last word is 0.
+pub mod done {
+    /// The port named.
+    pub const PORT: usize = 0;
+    /// The status without its sign.
+    pub const STATUS: usize = 1;
+    /// Whether the guest is to be notified, 0 or 1.
+    pub const NOTIFY: usize = 2;
+}

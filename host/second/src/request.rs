@@ -1,0 +1,59 @@
+//! A request as it lies in a slot (rules 2.5 to 2.9), copied once.
+
+use crate::layout::{read_u32, read_u64, slot_at, MAX_EXTENTS, SLOT_BYTES};
+
+/// One segment of a request (rule 2.6).
+pub struct Segment {
+    pub frame: u32,
+    pub first: u8,
+    last: u8,
+}
+
+impl Segment {
+    pub fn read(bytes: &[u8]) -> Segment {
+        Segment {
+            frame: read_u32(bytes, 0),
+            first: bytes[4],
+            last: bytes[5],
+        }
+    }
+
+    /// Whether check 26 lets it pass.
+    pub fn is_sound(&self) -> bool {
+        self.first <= self.last && self.last <= 7
+    }
+
+    /// How many sectors a sound segment has.
+    pub fn length(&self) -> u64 {
+        u64::from(self.last - self.first) + 1
+    }
+}
+
+/// The 112 bytes of a slot, taken out of the page once.
+pub struct Request {
+    pub operation: u8,
+    /// n, or a discard's flag.
+    pub count_or_flag: u8,
+    pub id: u64,
+    pub start: u64,
+    /// Segments, or a discard's sector count in the first 8 bytes.
+    pub body: [u8; 8 * MAX_EXTENTS],
+}
+
+impl Request {
+    /// Rule 1.8: the slot is copied, and from then on the copy is read.
+    pub fn take(page: &[u8], index: u32) -> Request {
+        let at = slot_at(index);
+        let mut slot = [0; SLOT_BYTES];
+        slot.copy_from_slice(&page[at..at + SLOT_BYTES]);
+        let mut body = [0; 8 * MAX_EXTENTS];
+        body.copy_from_slice(&slot[24..]);
+        Request {
+            operation: slot[0],
+            count_or_flag: slot[1],
+            id: read_u64(&slot, 8),
+            start: read_u64(&slot, 16),
+            body,
+        }
+    }
+}

@@ -1,0 +1,138 @@
+//! What an open port keeps, and how it serves a request and answers one (sections 4 to 6).
+
+use crate::answers::{Plan, Turned};
+use crate::checks::{judge, Work};
+use crate::layout::{
+    read_u32, slot_at, write_u32, REQ_PROD, RESPONSE_BYTES, RSP_EVENT, RSP_PROD, SLOTS,
+};
+use crate::request::Request;
+use crate::ring::{backlog, response_bytes, Backlog};
+use crate::sheet::Disk;
+use crate::terms::{Operation, Refusal, Status};
+
+/// What a busy tag keeps (rule 5.20).
+#[derive(Clone, Debug, PartialEq, Eq)]
+pub struct Started {
+    pub id: u64,
+    pub operation: Operation,
+    serial: u32,
+    expected: i32,
+}
+
+impl Started {
+    /// Rule 6.10.
+    pub fn status(&self, result: i32) -> Status {
+        if result == self.expected {
+            Status::Okay
+        } else if result == -95 {
+            Status::NotSupported
+        } else {
+            Status::Error
+        }
+    }
+}
+
+/// Rule 6.9.
+fn expected_result(work: &Work) -> i32 {
+    match work.operation {
+        Operation::Read | Operation::Write | Operation::Barrier => {
+            i32::try_from(work.count).expect("eleven segments of eight sectors at most")
+        }
+        Operation::Flush | Operation::Discard => 0,
+    }
+}
+
+/// What a port that is open or broken keeps.
+#[derive(Clone, Debug, PartialEq, Eq)]
+pub struct Session {
+    disk: Disk,
+    /// C, requests taken.
+    pub taken: u32,
+    /// R, responses given.
+    pub answered: u32,
+    /// The tags; a free one is `None`.
+    tags: [Option<Started>; SLOTS],
+}
+
+impl Session {
+    /// Rules 4.2 and 4.3: a port just opened.
+    pub fn new(disk: Disk) -> Session {
+        Session {
+            disk,
+            taken: 0,
+            answered: 0,
+            tags: [const { None }; SLOTS],
+        }
+    }
+
+    /// Rule 4.8.
+    pub fn in_flight(&self) -> u32 {
+        self.tags.iter().flatten().count() as u32
+    }
+
+    pub fn backlog(&self, page: &[u8]) -> Backlog {
+        backlog(read_u32(page, REQ_PROD), self.taken, self.in_flight())
+    }
+
+    /// Rules 5.15 to 5.19: a request is taken and judged.
+    pub fn serve(&mut self, port: u32, page: &mut [u8], grants: &[u8]) -> Turned {
+        let request = Request::take(page, self.taken);
+        let serial = self.taken;
+        self.taken = serial.wrapping_add(1);
+        match judge(&request, &self.disk, grants) {
+            Ok(work) => Turned::Started(self.start(port, serial, request.id, work)),
+            Err(reason) => {
+                let status = reason.status();
+                let notify = self.respond(page, request.id, request.operation, status);
+                Turned::Answered {
+                    port,
+                    reason,
+                    status,
+                    notify,
+                }
+            }
+        }
+    }
+
+    /// Rule 4.10: the lowest free tag is used.
+    fn start(&mut self, port: u32, serial: u32, id: u64, work: Work) -> Plan {
+        let tag = self
+            .tags
+            .iter()
+            .position(Option::is_none)
+            .expect("a request waits only while fewer than 32 are in flight");
+        self.tags[tag] = Some(Started {
+            id,
+            operation: work.operation,
+            serial,
+            expected: expected_result(&work),
+        });
+        Plan {
+            port,
+            tag: tag as u32,
+            serial,
+            operation: work.operation,
+            start: work.start,
+            count: work.count,
+            secure: work.secure,
+            extents: work.extents,
+        }
+    }
+
+    /// Rules 6.1 to 6.5: the response in its slot, rsp_prod, and whether to notify.
+    pub fn respond(&mut self, page: &mut [u8], id: u64, operation: u8, status: Status) -> bool {
+        let at = slot_at(self.answered);
+        page[at..at + RESPONSE_BYTES].copy_from_slice(&response_bytes(id, operation, status));
+        self.answered = self.answered.wrapping_add(1);
+        write_u32(page, RSP_PROD, self.answered);
+        read_u32(page, RSP_EVENT) == self.answered
+    }
+
+    /// Refusal 6, or the tag's request, whose tag is free from now on.
+    pub fn release(&mut self, tag: u32, serial: u32) -> Result<Started, Refusal> {
+        self.tags
+            .get_mut(tag as usize)
+            .and_then(|place| place.take_if(|started| started.serial == serial))
+            .ok_or(Refusal::NotBusy)
+    }
+}

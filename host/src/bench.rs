@@ -1,0 +1,145 @@
+//! A bench: both programs with the buffers that they are lent.
+
+use crate::{Ask, Both};
+use kernelharp::layout::{
+    page, slot_at, write_u32, GRANTS_BYTES, PAGE_BYTES, PORTS, PORT_GRANTS, REQ_PROD, RINGS_BYTES,
+    SLOT_BYTES,
+};
+use kernelharp::Completion;
+use second::{Done, Plan, Reason, Refusal, Turned};
+
+/// A backend with its buffers; the guests' own req_prod per port.
+#[derive(Clone)]
+pub struct Bench {
+    /// Both programs.
+    pub backend: Both,
+    /// The rings that they are lent.
+    pub rings: Vec<u8>,
+    /// The grants that they are lent.
+    pub grants: Vec<u8>,
+    produced: [u32; PORTS],
+}
+
+impl Default for Bench {
+    fn default() -> Bench {
+        Bench::new()
+    }
+}
+
+impl Bench {
+    /// An empty backend; every frame may be read and written.
+    pub fn new() -> Bench {
+        Bench {
+            backend: Both::new(),
+            rings: vec![0; RINGS_BYTES],
+            grants: vec![2; GRANTS_BYTES],
+            produced: [0; PORTS],
+        }
+    }
+
+    /// A backend with port 0 open.
+    pub fn open(sheet: &[u8]) -> Bench {
+        let mut bench = Bench::new();
+        assert_eq!(bench.backend.open(0, sheet), Ok(()));
+        bench
+    }
+
+    /// Sets the grant byte of a frame.
+    pub fn grant(&mut self, port: usize, frame: usize, grant: u8) {
+        self.grants[PORT_GRANTS * port + frame] = grant;
+    }
+
+    /// A port's ring page.
+    pub fn page(&self, port: usize) -> &[u8] {
+        page(&self.rings, port)
+    }
+
+    /// Writes a number on a port's page.
+    pub fn set_u32(&mut self, port: usize, at: usize, value: u32) {
+        write_u32(&mut self.rings, PAGE_BYTES * port + at, value);
+    }
+
+    /// Writes req_prod; the guest goes on from there.
+    pub fn set_req_prod(&mut self, port: usize, value: u32) {
+        self.produced[port] = value;
+        self.set_u32(port, REQ_PROD, value);
+    }
+
+    /// Puts a request where the guest's next one belongs.
+    pub fn post(&mut self, port: usize, ask: &Ask) {
+        let at = PAGE_BYTES * port + slot_at(self.produced[port]);
+        self.rings[at..at + SLOT_BYTES].copy_from_slice(&ask.bytes());
+        self.set_req_prod(port, self.produced[port].wrapping_add(1));
+    }
+
+    /// Takes a turn.
+    pub fn turn(&mut self) -> Turned {
+        self.backend
+            .turn(&mut self.rings, &self.grants)
+            .expect("buffers of the due length")
+    }
+
+    /// Posts a request on port 0 and serves it.
+    pub fn serve(&mut self, ask: &Ask) -> Result<Plan, Reason> {
+        self.post(0, ask);
+        match self.turn() {
+            Turned::Started(plan) => Ok(plan),
+            Turned::Answered { reason, status, .. } => {
+                assert_eq!(status, reason.status());
+                Err(reason)
+            }
+            other => panic!("nothing was served: {other:?}"),
+        }
+    }
+
+    /// The number of the reason, or 0 for a start.
+    pub fn number(&mut self, ask: &Ask) -> u32 {
+        self.serve(ask).map_or_else(|reason| reason as u32, |_| 0)
+    }
+
+    /// Completes a request.
+    pub fn complete(
+        &mut self,
+        port: u32,
+        tag: u32,
+        serial: u32,
+        result: i32,
+    ) -> Result<Done, Refusal> {
+        let named = Completion {
+            port,
+            tag,
+            serial,
+            result,
+        };
+        self.backend.complete(&mut self.rings, named)
+    }
+
+    /// Makes a call that must be refused and leave backend and buffers as they were. Gives the
+    /// refusal's number.
+    pub fn refused<T: std::fmt::Debug>(
+        &mut self,
+        call: impl FnOnce(&mut Bench) -> Result<T, Refusal>,
+    ) -> u32 {
+        let before = self.clone();
+        let refusal = call(self).expect_err("the call was not refused");
+        assert_eq!(self.backend, before.backend, "{refusal:?}");
+        assert_eq!(self.rings, before.rings, "{refusal:?}");
+        assert_eq!(self.grants, before.grants, "{refusal:?}");
+        refusal as u32
+    }
+
+    /// [`Bench::refused`] of an open.
+    pub fn refused_open(&mut self, port: u32, sheet: &[u8]) -> u32 {
+        self.refused(|bench| bench.backend.open(port, sheet))
+    }
+
+    /// [`Bench::refused`] of a close.
+    pub fn refused_close(&mut self, port: u32) -> u32 {
+        self.refused(|bench| bench.backend.close(port))
+    }
+
+    /// [`Bench::refused`] of a completion.
+    pub fn refused_complete(&mut self, port: u32, tag: u32, serial: u32) -> u32 {
+        self.refused(|bench| bench.complete(port, tag, serial, 8))
+    }
+}

@@ -1,0 +1,137 @@
+//! The numbers of the Rust package are those of the C header.
+
+use kernelharp::words::{done, extent, kind, turn, DONE_WORDS, TURN_WORDS};
+use kernelharp::{layout, Operation, Reason, Refusal, Status, MEMORY_WORDS, VERSION};
+use std::collections::BTreeMap;
+use std::fmt::Debug;
+
+const HEADER: &str = include_str!("../../include/kernelharp.h");
+
+/// What the header defines: numbers by name.
+type Numbers<'a> = BTreeMap<&'a str, i64>;
+
+/// The numbers in a part of the header, from `#define NAME NUMBER` and `NAME = NUMBER`.
+fn numbers(part: &str) -> Numbers<'_> {
+    let mut numbers = Numbers::new();
+    for line in part.lines() {
+        let define = line.strip_prefix("#define ").and_then(|line| {
+            let mut words = line.split_whitespace();
+            Some((words.next()?, words.next()?))
+        });
+        let cases = line.split(['{', ',']);
+        let cases = cases.filter_map(|case| case.trim().split_once(" = "));
+        for (name, text) in cases.chain(define) {
+            let number = text.split_whitespace().next().unwrap_or_default();
+            if let Ok(number) = number.parse() {
+                numbers.insert(name, number);
+            }
+        }
+    }
+    numbers
+}
+
+/// The numbers of one enum.
+fn cases(name: &str) -> Numbers<'static> {
+    let begin = HEADER.find(&format!("enum {name} {{")).expect("an enum");
+    let end = HEADER[begin..].find('}').expect("its end");
+    numbers(&HEADER[begin..begin + end])
+}
+
+/// A Rust name as the header has it.
+fn in_c(name: impl Debug) -> String {
+    let mut words = String::from("KH");
+    for letter in format!("{name:?}").chars() {
+        if letter.is_uppercase() {
+            words.push('_');
+        }
+        words.push(letter.to_ascii_uppercase());
+    }
+    words
+}
+
+/// Both have the same names, each for the same number, and no others.
+#[track_caller]
+fn same_names<T: Debug>(c: Numbers, rust: impl Iterator<Item = (T, i64)>) {
+    let rust: Vec<(String, i64)> = rust.map(|(case, number)| (in_c(case), number)).collect();
+    let rust: Numbers = rust.iter().map(|(name, it)| (name.as_str(), *it)).collect();
+    assert_eq!(rust, c);
+}
+
+#[test]
+fn sizes_and_places() {
+    let header = numbers(HEADER);
+    for (name, number) in [
+        ("KH_VERSION", VERSION as usize),
+        ("KH_MEMORY_WORDS", MEMORY_WORDS),
+        ("KH_PORTS", layout::PORTS),
+        ("KH_RINGS_BYTES", layout::RINGS_BYTES),
+        ("KH_GRANTS_BYTES", layout::GRANTS_BYTES),
+        ("KH_RING_BYTES", layout::PAGE_BYTES),
+        ("KH_PORT_GRANTS", layout::PORT_GRANTS),
+        ("KH_REQ_PROD", layout::REQ_PROD),
+        ("KH_REQ_EVENT", layout::REQ_EVENT),
+        ("KH_RSP_PROD", layout::RSP_PROD),
+        ("KH_RSP_EVENT", layout::RSP_EVENT),
+        ("KH_SLOTS_AT", layout::HEADER_BYTES),
+        ("KH_SLOTS", layout::SLOTS),
+        ("KH_SLOT_BYTES", layout::SLOT_BYTES),
+        ("KH_RESPONSE_BYTES", layout::RESPONSE_BYTES),
+        ("KH_EXTENTS", layout::MAX_EXTENTS),
+    ] {
+        assert_eq!(header.get(name), Some(&(number as i64)), "{name}");
+    }
+}
+
+#[test]
+fn words_of_the_answers() {
+    let header = numbers(HEADER);
+    for (name, number) in [
+        ("KH_TURN_WORDS", TURN_WORDS),
+        ("KH_TURN_KIND", turn::KIND),
+        ("KH_TURN_PORT", turn::PORT),
+        ("KH_TURN_TAG", turn::TAG),
+        ("KH_TURN_SERIAL", turn::SERIAL),
+        ("KH_TURN_OPERATION", turn::OPERATION),
+        ("KH_TURN_START", turn::START),
+        ("KH_TURN_COUNT", turn::COUNT),
+        ("KH_TURN_SECURE", turn::SECURE),
+        ("KH_TURN_EXTENT_COUNT", turn::EXTENT_COUNT),
+        ("KH_TURN_REASON", turn::REASON),
+        ("KH_TURN_STATUS", turn::STATUS),
+        ("KH_TURN_NOTIFY", turn::NOTIFY),
+        ("KH_TURN_EXTENTS", turn::EXTENTS),
+        ("KH_EXTENT_FRAME", extent::FRAME),
+        ("KH_EXTENT_FIRST", extent::FIRST),
+        ("KH_EXTENT_LENGTH", extent::LENGTH),
+        ("KH_EXTENT_SECTOR", extent::SECTOR),
+        ("KH_EXTENT_WORDS", extent::WORDS),
+        ("KH_DONE_WORDS", DONE_WORDS),
+        ("KH_DONE_PORT", done::PORT),
+        ("KH_DONE_STATUS", done::STATUS),
+        ("KH_DONE_NOTIFY", done::NOTIFY),
+        ("KH_IDLE", kind::IDLE as usize),
+        ("KH_STARTED", kind::STARTED as usize),
+        ("KH_ANSWERED", kind::ANSWERED as usize),
+        ("KH_OVERRUN", kind::OVERRUN as usize),
+    ] {
+        assert_eq!(header.get(name), Some(&(number as i64)), "{name}");
+    }
+}
+
+#[test]
+fn operations_and_statuses() {
+    let operations = (0..=u8::MAX).filter_map(Operation::from_byte);
+    same_names(cases("kh_operation"), operations.map(|it| (it, it as i64)));
+    let statuses = (0..10).filter_map(Status::from_magnitude);
+    same_names(cases("kh_status"), statuses.map(|it| (it, it as i64)));
+}
+
+#[test]
+fn refusals_and_reasons() {
+    let mut refusals = cases("kh_refusal");
+    assert_eq!(refusals.remove("KH_OK"), Some(0), "no refusal");
+    let rust = (0..100).filter_map(Refusal::from_number);
+    same_names(refusals, rust.map(|it| (it, it as i64)));
+    let rust = (0..100).filter_map(Reason::from_number);
+    same_names(cases("kh_reason"), rust.map(|it| (it, it as i64)));
+}

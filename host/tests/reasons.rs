@@ -1,0 +1,197 @@
+//! Reasons 21 to 29, each on both sides of its line and before those that come later (rules 8.21 to 8.29).
+
+use tests::{full_sheet, sheet, usual_sheet, Ask, Bench};
+
+/// The reason for a request on the usual disk, 0 when it starts.
+fn usual(ask: &Ask) -> u32 {
+    Bench::open(&usual_sheet()).number(ask)
+}
+
+fn on(sheet: &[u8], ask: &Ask) -> u32 {
+    Bench::open(sheet).number(ask)
+}
+
+#[test]
+fn reason_21() {
+    for operation in [4, 6, 7, 128, 255] {
+        // 21 before any other check: mode r, 99 segments.
+        let ask = Ask::of(operation, 99, 0, 9, 0);
+        assert_eq!(on(&full_sheet("r", "512", "0"), &ask), 21);
+    }
+    assert_eq!(usual(&Ask::of(3, 0, 0, 0, 0)), 0);
+}
+
+#[test]
+fn reason_22() {
+    let off = |node: u8, mode| {
+        let mut entries = vec![(1, mode), (2, "1"), (3, "1"), (4, "1"), (5, "1")];
+        entries.extend([(6, "512"), (7, "2008")]);
+        entries.retain(|entry| entry.0 != node);
+        sheet(&entries)
+    };
+    let asks = [
+        (2, Ask::of(2, 1, 0, 0, 7)),
+        (3, Ask::of(3, 0, 0, 0, 0)),
+        (4, Ask::discard(0, 0, 8)),
+    ];
+    for (node, ask) in asks {
+        assert_eq!(on(&off(node, "w"), &ask), 22, "node {node}");
+        assert_eq!(on(&off(node, "r"), &ask), 22, "node {node}");
+        assert_eq!(usual(&ask), 0);
+    }
+    // 22 before 23.
+    let neither = sheet(&[(1, "w"), (6, "512"), (7, "2008")]);
+    assert_eq!(on(&neither, &Ask::discard(1, 0, 8)), 22);
+}
+
+#[test]
+fn reason_23() {
+    let not_secure = |mode| sheet(&[(1, mode), (4, "1"), (6, "512"), (7, "2008")]);
+    for flag in [1, 3, 255] {
+        assert_eq!(on(&not_secure("w"), &Ask::discard(flag, 0, 8)), 23);
+        assert_eq!(on(&not_secure("r"), &Ask::discard(flag, 0, 8)), 23);
+        assert_eq!(usual(&Ask::discard(flag, 0, 8)), 0);
+    }
+    for flag in [0, 2, 254] {
+        assert_eq!(on(&not_secure("w"), &Ask::discard(flag, 0, 8)), 0);
+    }
+}
+
+#[test]
+fn reason_24() {
+    let read_only = full_sheet("r", "512", "2008");
+    for ask in [
+        Ask::of(1, 12, 2000, 0, 7),
+        Ask::of(2, 0, 0, 0, 7),
+        Ask::discard(0, 0, 0),
+    ] {
+        assert_eq!(on(&read_only, &ask), 24);
+    }
+    assert_eq!(on(&read_only, &Ask::usual_read()), 0);
+    assert_eq!(on(&read_only, &Ask::of(3, 0, 0, 0, 0)), 0);
+    assert_eq!(usual(&Ask::of(1, 12, 2000, 0, 7)), 25);
+}
+
+#[test]
+fn reason_25() {
+    for operation in [0, 1] {
+        // 25 before 26.
+        for n in [0, 12, 13, 255] {
+            assert_eq!(usual(&Ask::of(operation, n, 0, 9, 0)), 25, "n {n}");
+        }
+        for n in [1, 11] {
+            assert_eq!(usual(&Ask::of(operation, n, 0, 0, 7)), 0, "n {n}");
+        }
+    }
+    for (n, number) in [(0, 0), (1, 0), (11, 0), (12, 25), (255, 25)] {
+        assert_eq!(usual(&Ask::of(2, n, 0, 0, 7)), number, "barrier, n {n}");
+    }
+    for (n, number) in [(0, 0), (1, 25), (255, 25)] {
+        assert_eq!(usual(&Ask::of(3, n, 0, 0, 7)), number, "flush, n {n}");
+    }
+    assert_eq!(usual(&Ask::discard(0, 9999, 0)), 25);
+    assert_eq!(usual(&Ask::discard(0, 0, 1)), 0);
+}
+
+#[test]
+fn reason_26() {
+    for (first, last) in [(3, 2), (0, 8), (8, 8), (255, 255), (255, 0)] {
+        // 26 before 27 to 29.
+        let mut ask = Ask::of(0, 2, 9999, 0, 7);
+        ask.segments[0].0 = 5000;
+        ask.segments[1].1 = first;
+        ask.segments[1].2 = last;
+        assert_eq!(usual(&ask), 26, "{first}..{last}");
+    }
+    for (first, last) in [(0, 0), (0, 7), (7, 7), (2, 3)] {
+        assert_eq!(usual(&Ask::of(0, 1, 0, first, last)), 0);
+    }
+    // Segments beyond n mean nothing.
+    let mut ask = Ask::of(0, 2, 0, 0, 7);
+    ask.count_or_flag = 1;
+    ask.segments[1] = (5000, 9, 0);
+    assert_eq!(usual(&ask), 0);
+}
+
+#[test]
+fn reason_27() {
+    let granted = |operation, frame: u32, grant| {
+        let mut bench = Bench::open(&usual_sheet());
+        bench.grant(0, 5, grant);
+        bench.grant(0, 1023, grant);
+        let mut ask = Ask::of(operation, 2, 0, 0, 7);
+        ask.segments[0].0 = 6;
+        ask.segments[1].0 = frame;
+        bench.number(&ask)
+    };
+    for (grant, read, write) in [
+        (0, 27, 27),
+        (1, 27, 0),
+        (2, 0, 0),
+        (3, 27, 27),
+        (255, 27, 27),
+    ] {
+        for frame in [5, 1023] {
+            assert_eq!(granted(0, frame, grant), read, "read, grant {grant}");
+            assert_eq!(granted(1, frame, grant), write, "write, grant {grant}");
+            assert_eq!(granted(2, frame, grant), write, "barrier, grant {grant}");
+        }
+    }
+    for frame in [1024, 1029, 65541, u32::MAX] {
+        assert_eq!(granted(0, frame, 2), 27, "frame {frame}");
+    }
+    // 27 before 28; the grants of another port say nothing here.
+    let mut bench = Bench::open(&usual_sheet());
+    bench.grant(0, 5, 0);
+    assert_eq!(bench.number(&Ask::of(0, 1, 9999, 0, 7)), 27);
+    let mut bench = Bench::open(&usual_sheet());
+    bench.grant(1, 5, 0);
+    assert_eq!(bench.number(&Ask::usual_read()), 0);
+}
+
+#[test]
+fn reason_28() {
+    let sized = |sectors: &str, ask: &Ask| on(&full_sheet("w", "512", sectors), ask);
+    assert_eq!(sized("2008", &Ask::usual_read()), 0);
+    assert_eq!(sized("2007", &Ask::usual_read()), 28);
+    let largest = u64::MAX.to_string();
+    assert_eq!(sized(&largest, &Ask::of(0, 1, u64::MAX, 0, 0)), 28);
+    assert_eq!(sized(&largest, &Ask::of(0, 1, u64::MAX - 1, 0, 0)), 0);
+    assert_eq!(sized(&largest, &Ask::of(0, 1, u64::MAX - 1, 0, 7)), 28);
+    assert_eq!(sized(&largest, &Ask::discard(0, 1, u64::MAX)), 28);
+    assert_eq!(sized(&largest, &Ask::discard(0, 0, u64::MAX)), 0);
+    assert_eq!(sized("8", &Ask::discard(0, 1, 8)), 28);
+    assert_eq!(sized("8", &Ask::discard(0, 1, 7)), 0);
+    // Skipped for flush and empty barriers.
+    assert_eq!(sized("0", &Ask::of(3, 0, u64::MAX, 0, 0)), 0);
+    assert_eq!(sized("0", &Ask::of(2, 0, u64::MAX, 0, 0)), 0);
+    // 28 before 29.
+    assert_eq!(
+        on(&full_sheet("w", "4096", "8"), &Ask::of(0, 1, 4, 0, 7)),
+        28
+    );
+}
+
+#[test]
+fn reason_29() {
+    for (size, unit) in [("512", 1), ("1024", 2), ("2048", 4), ("4096", 8)] {
+        let disk = full_sheet("w", size, "2008");
+        for start in 0..9 {
+            let due = if start % unit == 0 { 0 } else { 29 };
+            assert_eq!(on(&disk, &Ask::of(1, 1, start, 0, 7)), due);
+            assert_eq!(on(&disk, &Ask::discard(0, start, 8)), due);
+        }
+        for count in 1..9 {
+            let due = if count % unit == 0 { 0 } else { 29 };
+            let last = count as u8 - 1;
+            assert_eq!(on(&disk, &Ask::of(2, 1, 8, 0, last)), due);
+            assert_eq!(on(&disk, &Ask::discard(0, 8, count)), due);
+        }
+    }
+    // Only the total counts, not each segment.
+    let disk = full_sheet("w", "4096", "2008");
+    assert_eq!(on(&disk, &Ask::of(0, 8, 0, 0, 0)), 0);
+    assert_eq!(on(&disk, &Ask::of(0, 7, 0, 0, 0)), 29);
+    assert_eq!(on(&disk, &Ask::of(3, 0, 1, 0, 0)), 0);
+    assert_eq!(on(&disk, &Ask::of(2, 0, 1, 0, 0)), 0);
+}

@@ -1,0 +1,353 @@
+/*
+ * The vectors of tests/vectors, each line of them: what is given goes through the library, and what came of it, in the
+ * words of its file, is what is due there.
+ */
+#include "test.h"
+
+#include <inttypes.h>
+#include <stdarg.h>
+
+/* ---- the files */
+
+enum { LINE_BYTES = 1024 };
+
+typedef struct {
+    char at[LINE_BYTES];
+    size_t length;
+} text;
+
+__attribute__((format(printf, 2, 3))) static void say(text *came, const char *format, ...) {
+    va_list values;
+    va_start(values, format);
+    came->length += (size_t)vsnprintf(came->at + came->length, sizeof came->at - came->length, format, values);
+    va_end(values);
+    CHECK(came->length < sizeof came->at);
+}
+
+/* Says what came of the case that is given; false where it can't be read. */
+typedef bool runner(host *h, const char *given, text *came);
+
+/* A line is GIVEN = DUE; a star before it is for another reader. */
+static void run_line(host *h, char *line, runner *run) {
+    text came = {"", 0};
+    char *due = strstr(line, " = ");
+    CHECK(due != NULL);
+    if (due == NULL)
+        return;
+    *due = '\0';
+    due += 3;
+    CHECK(run(h, line + (line[0] == '*' ? 2 : 0), &came));
+    if (strcmp(came.at, due) != 0) {
+        report(__FILE__, __LINE__, line);
+        printf(": is %s, not %s\n", came.at, due);
+    }
+}
+
+/* Runs every line of a file but blank ones and comments; the number of them. */
+static unsigned run_file(host *h, const char *path, runner *run) {
+    char line[LINE_BYTES];
+    unsigned cases = 0;
+    FILE *file = fopen(path, "r");
+    CHECK(file != NULL);
+    while (file != NULL && fgets(line, sizeof line, file) != NULL) {
+        size_t length = strcspn(line, "\n");
+        CHECK(line[length] == '\n');
+        line[length] = '\0';
+        if (line[0] == '\0' || line[0] == '#')
+            continue;
+        reset(h);
+        run_line(h, line, run);
+        cases++;
+    }
+    if (file != NULL)
+        fclose(file);
+    CHECK(cases > 0);
+    return cases;
+}
+
+/* Once for both places of the buffers. */
+__attribute__((format(printf, 1, 2))) static void print_count(const char *format, ...) {
+    va_list values;
+    va_start(values, format);
+    if (placement != BEFORE_GUARD)
+        vprintf(format, values);
+    va_end(values);
+}
+
+/* So many numbers and nothing else. */
+static bool read_numbers(const char *given, uint64_t *numbers, size_t count) {
+    char *end;
+    for (size_t i = 0; i < count; i++, given = end) {
+        numbers[i] = strtoull(given, &end, 10);
+        if (end == given)
+            return false;
+    }
+    return *given == '\0';
+}
+
+/* ---- what backend memory keeps of a port, one field to a word (crates/memory/src/lib.rt) */
+
+enum port_word {
+    WRITABLE = 1,
+    BARRIER,
+    FLUSH,
+    DISCARD,
+    SECURE,
+    SECTOR_SIZE, /* 0 to 3: 512 to 4,096 */
+    SECTORS,
+    CONSUMED = 9,
+    PRODUCED,
+    BUSY, /* a bit to a tag */
+    PORT_WORDS = 12 + 4 * KH_TAGS
+};
+
+_Static_assert(KH_PORTS *PORT_WORDS + 1 == KH_MEMORY_WORDS, "the ports and the pointer");
+
+static uint64_t *port_words(const host *h, uint32_t port) {
+    return words(h, MEMORY) + PORT_WORDS * port;
+}
+
+/* ---- sheets */
+
+enum { LONGEST_SHEET = 5 + 65535 };
+
+/* Bytes in hex, BYTE*N for a byte N times. */
+static bool read_bytes(const char *given, uint8_t *bytes, size_t *count) {
+    char *end;
+    for (*count = 0; *given != '\0'; given = end) {
+        unsigned long byte = strtoul(given, &end, 16), times = 1;
+        if (end == given || byte > 255)
+            return false;
+        if (*end == '*')
+            times = strtoul(end + 1, &end, 10);
+        if (times > LONGEST_SHEET - *count)
+            return false;
+        memset(bytes + *count, (int)byte, times);
+        *count += times;
+    }
+    return true;
+}
+
+static void say_features(const host *h, text *came) {
+    static const char *const names[] = {"barrier", "flush", "discard", "secure"};
+    for (unsigned i = 0; i < COUNT_OF(names); i++)
+        if (port_words(h, 0)[BARRIER + i] != 0)
+            say(came, "%s ", names[i]);
+}
+
+static unsigned sector_size(const host *h) {
+    return 512U << port_words(h, 0)[SECTOR_SIZE] % 4;
+}
+
+/* NAME: BYTES */
+static bool run_sheet(host *h, const char *given, text *came) {
+    static uint8_t bytes[LONGEST_SHEET];
+    const char *colon = strchr(given, ':');
+    size_t count;
+    uint32_t number;
+    if (colon == NULL || !read_bytes(colon + 1, bytes, &count))
+        return false;
+    number = OPEN(h, 0, bytes, count);
+    if (number != KH_OK) {
+        say(came, "refused %" PRIu32, number);
+        return true;
+    }
+    say(came, "%s", port_words(h, 0)[WRITABLE] != 0 ? "writable " : "");
+    say_features(h, came);
+    say(came, "sector %u sectors %" PRIu64, sector_size(h), port_words(h, 0)[SECTORS]);
+    return true;
+}
+
+static void sheet_vectors(host *h) {
+    print_count("     %u sheets\n", run_file(h, "tests/vectors/sheets.txt", run_sheet));
+}
+
+/* ---- requests */
+
+/* The numbers of a line. */
+typedef struct {
+    uint64_t writable, barrier, flush, discard, secure, sector_size, sectors;
+    uint64_t operation, n, start, frame, first, last, right, count;
+} numbers;
+
+enum { NUMBERS = sizeof(numbers) / sizeof(uint64_t) };
+
+/* A turn over the request on port 0 of an empty backend, and its completion where it starts. */
+static void serve(host *h, const numbers *is, uint64_t id) {
+    request r = transfer((uint8_t)is->operation, (uint8_t)is->n, is->start);
+    char nodes[128];
+    snprintf(
+        nodes, sizeof nodes, "1:%c 2:%" PRIu64 " 3:%" PRIu64 " 4:%" PRIu64 " 5:%" PRIu64 " 6:%" PRIu64 " 7:%" PRIu64,
+        is->writable != 0 ? 'w' : 'r', is->barrier, is->flush, is->discard, is->secure, is->sector_size, is->sectors);
+    BEGIN(h, nodes);
+    memset(h->at[GRANTS], KH_GRANT_NONE, KH_GRANTS_BYTES);
+    if (is->frame < KH_PORT_GRANTS)
+        grant(h, 0, (uint32_t)is->frame, (uint8_t)is->right);
+    for (int i = 0; i < KH_EXTENTS; i++)
+        r.segments[i] = (segment){(uint32_t)is->frame, (uint8_t)is->first, (uint8_t)is->last};
+    r.sectors = is->count;
+    post(h, 0, r);
+    put(slot_in(ring(h, 0), 0) + 8, 8, id);
+    CHECK_EQ(TURN(h), KH_OK);
+    if (words(h, TURNED)[KH_TURN_KIND] == KH_STARTED)
+        CHECK_EQ(FINISH(h), KH_OK);
+}
+
+static void say_plan(const uint64_t *answer, text *came) {
+    kh_plan plan = kh_read_plan(answer);
+    say(came, "start %" PRIu32 " %" PRIu64 " %" PRIu64 " %d %" PRIu32, plan.operation, plan.start, plan.count,
+        plan.secure, plan.extent_count);
+    for (uint32_t i = 0; i < plan.extent_count && i < KH_EXTENTS; i++)
+        say(came, " | %" PRIu32 " %" PRIu32 " %" PRIu32 " %" PRIu64, plan.extents[i].frame, plan.extents[i].first,
+            plan.extents[i].length, plan.extents[i].sector);
+}
+
+static uint64_t cases_before; /* of this file */
+
+/* The id is read off the response. */
+static bool run_request(host *h, const char *given, text *came) {
+    numbers is;
+    if (!read_numbers(given, (uint64_t *)&is, NUMBERS))
+        return false;
+    serve(h, &is, ++cases_before);
+    say(came, "%" PRIu64 " ", get(slot_in(ring(h, 0), 0), 8));
+    if (words(h, TURNED)[KH_TURN_KIND] == KH_STARTED) {
+        say_plan(words(h, TURNED), came);
+    } else {
+        kh_turned turned = kh_read_turn(words(h, TURNED));
+        say(came, "refused %" PRIu32 " %" PRId32, turned.reason, turned.status);
+    }
+    return true;
+}
+
+static void request_vectors(host *h) {
+    cases_before = 0;
+    print_count("     %u requests\n", run_file(h, "tests/vectors/requests.txt", run_request));
+}
+
+/* ---- the rules' worked cases */
+
+/* BYTES = MODE SECTOR-SIZE SECTORS */
+static bool run_worked_sheet(host *h, const char *given, text *came) {
+    static uint8_t bytes[LONGEST_SHEET];
+    size_t count;
+    if (!read_bytes(given, bytes, &count))
+        return false;
+    CHECK_EQ(OPEN(h, 0, bytes, count), KH_OK);
+    say(came, "%s ", port_words(h, 0)[WRITABLE] != 0 ? "w" : "r");
+    say_features(h, came);
+    say(came, "%u %" PRIu64, sector_size(h), port_words(h, 0)[SECTORS]);
+    return true;
+}
+
+/* MODE SECTOR-SIZE SECTORS GRANT OPERATION N START FIRST LAST = start COUNT, or the reason */
+static bool run_worked_request(host *h, const char *given, text *came) {
+    numbers is = {.barrier = 1, .flush = 1, .discard = 1, .secure = 1, .frame = 5, .writable = given[0] == 'w'};
+    uint64_t n[8];
+    if (strchr("rw", given[0]) == NULL || !read_numbers(given + 1, n, COUNT_OF(n)))
+        return false;
+    is.sector_size = n[0], is.sectors = n[1], is.right = n[2], is.operation = n[3];
+    is.n = n[4], is.start = n[5], is.first = n[6], is.last = n[7];
+    serve(h, &is, FIRST_ID);
+    if (words(h, TURNED)[KH_TURN_KIND] == KH_STARTED)
+        say(came, "start %" PRIu64, words(h, TURNED)[KH_TURN_COUNT]);
+    else
+        say(came, "%" PRIu64, words(h, TURNED)[KH_TURN_REASON]);
+    return true;
+}
+
+/* C R REQ_PROD = waits SLOT, overrun or nothing. On port 3, with C and R put into its words; each slot asks for the
+ * sector of its number. */
+static bool run_index(host *h, const char *given, text *came) {
+    enum { PORT = 3 };
+    uint64_t n[3], in_flight;
+    if (!read_numbers(given, n, COUNT_OF(n)))
+        return false;
+    in_flight = (UINT64_C(1) << (uint32_t)(n[0] - n[1])) - 1;
+    CHECK_EQ(OPEN_NODES(h, PORT, USUAL_NODES), KH_OK);
+    for (unsigned slot = 0; slot < KH_SLOTS; slot++)
+        post(h, PORT, transfer(KH_READ, 1, slot));
+    set_index(h, PORT, KH_REQ_PROD, (uint32_t)n[2]);
+    port_words(h, PORT)[CONSUMED] = h->books[PORT].taken = (uint32_t)n[0];
+    port_words(h, PORT)[PRODUCED] = h->books[PORT].answered = (uint32_t)n[1];
+    port_words(h, PORT)[BUSY] = h->books[PORT].busy = (uint32_t)in_flight;
+    CHECK_EQ(TURN(h), KH_OK);
+    if (words(h, TURNED)[KH_TURN_KIND] == KH_STARTED)
+        say(came, "waits %" PRIu64, words(h, TURNED)[KH_TURN_START]);
+    else
+        say(came, "%s", words(h, TURNED)[KH_TURN_KIND] == KH_OVERRUN ? "overrun" : "nothing");
+    return true;
+}
+
+/* EXPECTED RESULT = STATUS */
+static bool run_result(host *h, const char *given, text *came) {
+    request r = transfer(KH_READ, 1, 0);
+    char *rest, *end;
+    unsigned long expected = strtoul(given, &rest, 10);
+    long result = strtol(rest, &end, 10);
+    if (end == rest || *end != '\0' || expected < 1 || expected > KH_FRAME_SECTORS)
+        return false;
+    r.segments[0].last = (uint8_t)(expected - 1);
+    BEGIN(h, USUAL_NODES);
+    post(h, 0, r);
+    CHECK_EQ(TURN(h), KH_OK);
+    CHECK_EQ(words(h, TURNED)[KH_TURN_COUNT], expected);
+    CHECK_EQ(COMPLETE(h, 0, 0, 0, (int32_t)result), KH_OK);
+    say(came, "%" PRId32, kh_read_completion(words(h, COMPLETED)).status);
+    return true;
+}
+
+/* ID OPERATION STATUS = BYTES. On port 7: a request of that id and operation, completed with a result of that status.
+ */
+static bool run_response(host *h, const char *given, text *came) {
+    enum { PORT = 7 };
+    static const int32_t results[] = {8, -5, KH_RESULT_NOT_SUPPORTED};
+    uint64_t id;
+    uint8_t operation;
+    int status, end = 0;
+    if (sscanf(given, "%" SCNx64 " %" SCNu8 " %d%n", &id, &operation, &status, &end) != 3 || given[end] != '\0')
+        return false;
+    if (status > KH_OKAY || status < KH_NOT_SUPPORTED || operation > KH_BARRIER)
+        return false;
+    CHECK_EQ(OPEN_NODES(h, PORT, ALL_FEATURES), KH_OK);
+    post(h, PORT, transfer(operation, 1, 0));
+    put(slot_in(ring(h, PORT), 0) + 8, 8, id);
+    CHECK_EQ(TURN(h), KH_OK);
+    CHECK_EQ(COMPLETE(h, PORT, 0, 0, results[-status]), KH_OK);
+    for (int i = 0; i < KH_RESPONSE_BYTES; i++)
+        say(came, "%s%02X", i == 0 ? "" : " ", slot_in(ring(h, PORT), 0)[i]);
+    return true;
+}
+
+static struct {
+    const char *word;
+    runner *run;
+    unsigned cases;
+} kinds[] = {
+    {"sheet ", run_worked_sheet, 0}, {"request ", run_worked_request, 0}, {"index ", run_index, 0},
+    {"result ", run_result, 0},      {"response ", run_response, 0},
+};
+
+static bool run_worked(host *h, const char *given, text *came) {
+    for (size_t i = 0; i < COUNT_OF(kinds); i++)
+        if (strncmp(given, kinds[i].word, strlen(kinds[i].word)) == 0) {
+            kinds[i].cases++;
+            return kinds[i].run(h, given + strlen(kinds[i].word), came);
+        }
+    return false;
+}
+
+static void worked_cases(host *h) {
+    for (size_t i = 0; i < COUNT_OF(kinds); i++)
+        kinds[i].cases = 0;
+    print_count("     %u worked cases:", run_file(h, "tests/vectors/worked.txt", run_worked));
+    for (size_t i = 0; i < COUNT_OF(kinds); i++) {
+        CHECK(kinds[i].cases > 0);
+        print_count(" %s%u%s", kinds[i].word, kinds[i].cases, i + 1 < COUNT_OF(kinds) ? "," : "\n");
+    }
+}
+
+int main(void) {
+    static const test tests[] = {TEST(sheet_vectors), TEST(request_vectors), TEST(worked_cases)};
+    return run_tests(tests, COUNT_OF(tests));
+}
