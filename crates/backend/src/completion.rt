@@ -119,8 +119,7 @@ pub fn complete(
     if PORTS <= k {
         return Completed::Refused(NO_PORT);
     }
-    let p = memory::port_at(memory, k);
-    let state = p.state;
+    let state = memory::state(memory, k);
     match state {
         State::Closed => Completed::Refused(IS_CLOSED),
         State::Open | State::Broken => complete_named(memory, rings, port, tag, serial, result),

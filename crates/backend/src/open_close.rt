@@ -41,8 +41,7 @@ pub fn open(memory: &mut [u64; WORDS], port: PortId, sheet: &[u8]) -> Reply
     if PORTS <= k {
         return Reply::Refused(NO_PORT);
     }
-    let p = memory::port_at(memory, k);
-    let state = p.state;
+    let state = memory::state(memory, k);
     match state {
         State::Closed => {
             let read = nodes::read_sheet(sheet);
@@ -101,8 +100,7 @@ pub fn close(memory: &mut [u64; WORDS], port: PortId) -> Reply
     if PORTS <= k {
         return Reply::Refused(NO_PORT);
     }
-    let p = memory::port_at(memory, k);
-    let state = p.state;
+    let state = memory::state(memory, k);
     match state {
         State::Closed => Reply::Refused(IS_CLOSED),
         State::Open | State::Broken => shut(memory, port),

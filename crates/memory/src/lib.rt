@@ -30,6 +30,7 @@ pub use port::set_consumed;
 pub use port::set_port;
 pub use port::set_produced;
 pub use port::set_state;
+pub use port::state;
 pub use tag::set_tag;
 pub use tag::tag_at;
 

@@ -53,7 +53,7 @@ const BUSY: usize = 11;
 
 // ---- one field
 
-fn state(m: &[u64; WORDS], k: usize) -> State
+pub fn state(m: &[u64; WORDS], k: usize) -> State
     requires { ⌜ k < ports ⌝ }
     ensures { λ r. ⌜ r ≡ backendOf (now (m .entry)) .port k .state ⌝ }
 {

@@ -1,4 +1,4 @@
-// Lines, and the decimal numbers in them. In a line, what is no digit only parts the numbers.
+// Lines, and the decimal numbers in them, as what a call takes. In a line, what is no digit only parts the numbers.
 ghost use Prim.Native.Nat.{_≤_};
 ghost use lib.ListN.{length};
 ghost use Rattle.io.specs.Counts.{Counts};
@@ -86,4 +86,29 @@ pub fn numbers(line: &[u8], words: &mut [u64; NUMBERS], bytes: &mut [u8]) -> usi
         i += 1;
     }
     i
+}
+
+// The lower 32 bits, where a line has a larger number.
+pub fn narrow(n: u64) -> u32 {
+    (n % 4294967296) as u32
+}
+
+// A length, cut to what there is to lend.
+pub fn within(n: u64, lent: &[u8]) -> usize
+    ensures { λ r. ⌜ Counts r (now (lent .entry)) ⌝ }
+{
+    let count = n as usize;
+    if lent.len() < count {
+        return lent.len();
+    }
+    count
+}
+
+// A result with its sign.
+pub fn signed(n: u64, negative: bool) -> i32 {
+    let size = (n % 2147483648) as i32;
+    if negative {
+        return -size;
+    }
+    size
 }

@@ -31,7 +31,6 @@ use model::buffer::PAGE;
 use model::buffer::PORTS;
 use model::buffer::RINGS;
 use model::buffer::TURN_WORDS;
-ghost use Rattle.io.specs.Counts.{Counts};
 
 // The buffers' numbers, as a line has them.
 const PORT_COUNT: u64 = PORTS as u64;
@@ -43,31 +42,6 @@ const RINGS_BYTES: u64 = RINGS as u64;
 const GRANT_BYTES: u64 = GRANT_SHARE as u64;
 
 const GRANTS_BYTES: u64 = GRANTS as u64;
-
-// The lower 32 bits, where a line has a larger number.
-fn narrow(n: u64) -> u32 {
-    (n % 4294967296) as u32
-}
-
-// A length, cut to what there is to lend.
-fn within(n: u64, lent: &[u8]) -> usize
-    ensures { λ r. ⌜ Counts r (now (lent .entry)) ⌝ }
-{
-    let count = n as usize;
-    if lent.len() < count {
-        return lent.len();
-    }
-    count
-}
-
-// A result with its sign.
-fn signed(n: u64, negative: bool) -> i32 {
-    let size = (n % 2147483648) as i32;
-    if negative {
-        return -size;
-    }
-    size
-}
 
 // The bytes from a place on, as far as the rings go.
 fn put_bytes(rings: &mut [u8; RINGS], from: usize, bytes: &[u8]) {
@@ -103,13 +77,13 @@ fn open(memory: &mut [u64; WORDS], c: &[u64; NUMBERS], bytes: &[u8]) {
     if bytes.len() < 1 {
         return;
     }
-    let answer = backend::open(memory, PortId(narrow(c[0])), &bytes[1..]);
+    let answer = backend::open(memory, PortId(input::narrow(c[0])), &bytes[1..]);
     output::reply(answer);
 }
 
 fn close(memory: &mut [u64; WORDS], c: &[u64; NUMBERS]) {
     output::text(b"close");
-    let answer = backend::close(memory, PortId(narrow(c[0])));
+    let answer = backend::close(memory, PortId(input::narrow(c[0])));
     output::reply(answer);
 }
 
@@ -118,8 +92,8 @@ fn close(memory: &mut [u64; WORDS], c: &[u64; NUMBERS]) {
 fn take_turn(memory: &mut [u64; WORDS], rings: &mut [u8], grants: &[u8], r: u64, g: u64) {
     output::text(b"turn");
     let mut answer = [1u64; TURN_WORDS];
-    let lent = within(r, rings);
-    let granted = within(g, grants);
+    let lent = input::within(r, rings);
+    let granted = input::within(g, grants);
     let turned = turn::turn(memory, &mut rings[..lent], &grants[..granted], &mut answer);
     output::turned(turned, &answer);
 }
@@ -127,13 +101,13 @@ fn take_turn(memory: &mut [u64; WORDS], rings: &mut [u8], grants: &[u8], r: u64,
 // A completion that is lent the first r bytes of the rings.
 fn complete(memory: &mut [u64; WORDS], rings: &mut [u8], r: u64, names: [u64; 3], result: i32) {
     output::text(b"complete");
-    let lent = within(r, rings);
+    let lent = input::within(r, rings);
     let answer = backend::complete(
         memory,
         &mut rings[..lent],
-        PortId(narrow(names[0])),
-        TagId(narrow(names[1])),
-        Serial(narrow(names[2])),
+        PortId(input::narrow(names[0])),
+        TagId(input::narrow(names[1])),
+        Serial(input::narrow(names[2])),
         result,
     );
     output::completed(answer);
@@ -163,7 +137,7 @@ fn call(
             rings,
             RINGS_BYTES,
             [c[0], c[1], c[2]],
-            signed(c[3], negative),
+            input::signed(c[3], negative),
         );
     }
     if letter == b'F' {
@@ -172,7 +146,7 @@ fn call(
             rings,
             c[0],
             [c[1], c[2], c[3]],
-            signed(c[4], negative),
+            input::signed(c[4], negative),
         );
     }
 }

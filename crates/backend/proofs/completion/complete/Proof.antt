@@ -23,8 +23,8 @@ returns-2 c =
     let a = start .args in
     complete-no-port (a .memory .now) (a .rings .now) (a .port) (a .tag) (a .serial) (a .result) (omega arith) (omega (arith, c .if2 .taken))
 
-port-at-requires : tie.Need-port-at-requires
-port-at-requires c κs = search needs
+state-requires : tie.Need-state-requires
+state-requires c κs = search needs
 
 enum-told : tie.Need-enum-told
 enum-told c = search needs
@@ -33,14 +33,14 @@ complete-named-requires : tie.Need-complete-named-requires
 complete-named-requires c κs =
     let arm = c .before .before in
     let at = arm .before in
-    record { pages = omega arith; inUse = record { small = omega arith; opened = rw (← at .port-at .ensures) (not-closed (at .port-at .result .state) (arm .match .keys2)) } }
+    record { pages = omega arith; inUse = record { small = omega arith; opened = rw (← at .state .ensures) (not-closed (at .state .result) (arm .match .keys2)) } }
 
 returns-3 : tie.Need-returns-3
 returns-3 c =
     let at = c .before .before in
     let start = at .before .before .before .before .before .before in
     let a = start .args in
-    complete-closed (a .memory .now) (a .rings .now) (a .port) (a .tag) (a .serial) (a .result) (omega arith) (omega arith) (rw (← at .port-at .ensures, c .enum-told .given .1))
+    complete-closed (a .memory .now) (a .rings .now) (a .port) (a .tag) (a .serial) (a .result) (omega arith) (omega arith) (rw (← at .state .ensures, c .enum-told .given .1))
 
 same-length : tie.Need-same-length
 same-length c = search needs
@@ -59,7 +59,7 @@ complete-spec =
     returns
     cast-k
     returns-2
-    port-at-requires
+    state-requires
     enum-told
     complete-named-requires
     returns-3

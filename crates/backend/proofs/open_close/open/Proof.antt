@@ -15,8 +15,8 @@ returns c =
     let a = start .args in
     open-no-port (a .memory .now) (a .port) (a .sheet .now) (omega (arith, c .if1 .taken))
 
-port-at-requires : tie.Need-port-at-requires
-port-at-requires c κs = search needs
+state-requires : tie.Need-state-requires
+state-requires c κs = search needs
 
 enum-told : tie.Need-enum-told
 enum-told c = search needs
@@ -44,7 +44,7 @@ returns-2 c =
     let at = state .before .before in
     let start = at .before .before .before .before .before in
     let a = start .args in
-    open-bad-sheet (a .memory .now) (a .port) (a .sheet .now) (omega arith) (rw (← at .port-at .ensures, state .enum-told .given .1)) _
+    open-bad-sheet (a .memory .now) (a .port) (a .sheet .now) (omega arith) (rw (← at .state .ensures, state .enum-told .given .1)) _
     (rw (← sheet .read-sheet .ensures) (told .read .given .1))
 
 returns-3 : tie.Need-returns-3
@@ -56,7 +56,7 @@ returns-3 c =
     let at = state .before .before in
     let start = at .before .before .before .before .before in
     let a = start .args in
-    open-done (a .memory .now) (a .port) (a .sheet .now) (omega arith) (rw (← at .port-at .ensures, state .enum-told .given .1)) (told .read2 .given .0 .0) _
+    open-done (a .memory .now) (a .port) (a .sheet .now) (omega arith) (rw (← at .state .ensures, state .enum-told .given .1)) (told .read2 .given .0 .0) _
     (rw (← sheet .read-sheet .ensures) (told .read2 .given .1)) (rw (← new .opened .ensures) (c .set-port .ensures))
 
 returns-4 : tie.Need-returns-4
@@ -64,7 +64,7 @@ returns-4 c =
     let at = c .before in
     let start = at .before .before .before .before .before in
     let a = start .args in
-    open-not-closed (a .memory .now) (a .port) (a .sheet .now) (omega arith) (rw (← at .port-at .ensures) (not-closed (at .port-at .result .state) (c .match .keys2)))
+    open-not-closed (a .memory .now) (a .port) (a .sheet .now) (omega arith) (rw (← at .state .ensures) (not-closed (at .state .result) (c .match .keys2)))
 
 pub open-spec : {M : Type 1} → statement M
 open-spec =
@@ -72,7 +72,7 @@ open-spec =
     (tie.spec
     cast-k
     returns
-    port-at-requires
+    state-requires
     enum-told
     read-sheet-requires
     enum-known-read
