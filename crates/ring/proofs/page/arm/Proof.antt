@@ -24,7 +24,8 @@ same-length c = search needs
 returns : tie.Need-returns
 returns c =
     let a = c .before .before .before .before .before .before .args in
-    cc (req-event-at (a .rings .now) (a .k) (omega arith) (omega arith) (after (a .consumed)))
+    rw (c .before .before .put-u32 .ensures, c .before .before .before .next-index .ensures)
+    (req-event-at (a .rings .now) (a .k) (omega arith) (omega arith) (after (a .consumed)))
 
 pub arm-spec : {M : Type 1} → statement M
 arm-spec =

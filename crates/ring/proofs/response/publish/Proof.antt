@@ -23,7 +23,10 @@ returns : tie.Need-returns
 unfolding rspEvent setRspProd
 returns c =
     let a = c .before .before .before .before .before .before .before .before .args in
-    record { page = cc; notify = cc (load-store-above 4 4 (a .page .now) rspProdAt (after (a .produced)) rspEventAt (omega arith)) }
+    let stored = c .before .before .before .before .put-rsp-prod .ensures in
+    let next = c .before .before .before .before .before .before .next-index .ensures in
+    let event = load-store-above 4 4 (a .page .now) rspProdAt (after (a .produced)) rspEventAt (omega arith) in
+    record { page = rw (stored, next); notify = rw (c .u32-at .ensures, stored, next, event) }
 
 pub publish-spec : {M : Type 1} → statement M
 publish-spec =

@@ -30,7 +30,9 @@ returns c =
     let g = ringFor (a .abi) in
     let behind = slotAt-header g (fits-for (a .abi)) (a .produced) in
     let e = event-response (g .layout) (fits-for (a .abi) .statusRoom) (a .page .now) (slotAt g (a .produced)) (a .pair) (a .status) (omega arith) in
-    record { page = cc; notify = cc }
+    let response = c .before .before .before .before .before .before .put-response .ensures in
+    let slot = c .before .before .before .before .before .before .before .before .slot-at .ensures in
+    record { page = rw (c .before .before .publish .ensures .page, response, slot); notify = rw (c .before .before .publish .ensures .notify, response, slot, e) }
 
 pub write-response-spec : {M : Type 1} → statement M
 write-response-spec =
