@@ -14,5 +14,5 @@ pub mod Refinement
 pub mod Demand3
 pub mod Lines
 pub mod Sheets
-pub mod Run
+pub mod Refusals
 pub mod View

@@ -24,11 +24,12 @@ use Rattle.model.specs.declared.Verdict.{Verdict}
 use Rattle.memory.specs.Backend.{backendOf}
 use Rattle.memory.specs.Promise.{Promised}
 use Rattle.memory.proofs.Changes.{promised, nothing-done}
-use Rattle.turn.specs.Pick.{picked}
+use Rattle.round.specs.Pick.{picked}
+use Rattle.round.specs.Idle.{Rested}
+use Rattle.round.specs.declared.pick.Pick.{Pick}
+use Rattle.round.proofs.Search.{pick-found, pick-none}
 use Rattle.turn.specs.Promise.{TurnPromised}
-use Rattle.turn.specs.Serve.{Rested, Turns}
-use Rattle.turn.specs.declared.pick.Pick.{Pick}
-use Rattle.turn.proofs.Search.{pick-found, pick-none}
+use Rattle.turn.specs.Serve.{Turns}
 
 -- a port with something to serve has a request waiting, or an overrun
 has-work : (v : View) (rings : List ℕ) (k : ℕ) → hasWork v rings k ≡ true → isWork (pendingAt v rings k) ≡ true

@@ -1,4 +1,3 @@
-pub mod Search
 pub mod Serving
 pub mod Taking
 pub mod Ends

@@ -9,10 +9,10 @@ use Rattle.model.specs.Buffers.{ports, ringsLength, grantsLength, pageOf, grant
 use Rattle.model.specs.Calls.{TurnEffect}
 use Rattle.model.specs.Complete.{expectedOf}
 use Rattle.model.specs.Deeds.{turnDeeds, turnRound, portAfter, moved}
-use Rattle.model.specs.Plan.{verdictOf, noWords}
+use Rattle.model.specs.Plan.{verdictOf}
 use Rattle.model.specs.Port.{inFlightOf, lowestFree}
 use Rattle.model.specs.Ring.{ringOf, reqProd}
-use Rattle.model.specs.Turn.{portId, tagId, serialOf, hasWork, armed, respondedAt, notifies, requestAt, settled}
+use Rattle.model.specs.Turn.{portId, tagId, serialOf, hasWork, respondedAt, notifies, requestAt, settled}
 use Rattle.model.specs.declared.Pair.{Pair}
 use Rattle.model.specs.declared.Plan.{Plan}
 use Rattle.model.specs.declared.Port.{Port}
@@ -57,13 +57,6 @@ pub record Declined (m lent : List ℕ) (k : ℕ) (q : Pair) (n : ℕ) (s : Stat
   pub rings : pages ≡ respondedAt (viewOf (backendOf m)) lent k q s
   pub answer : r ≡ Turned.Answered (portId k) n s (notifies (viewOf (backendOf m)) lent k)
   pub memory : Becomes m (withPointer (withPort (backendOf m) k (answeredPort (backendOf m .port k))) (portAfter k)) left
-
--- nothing to serve: the open ports are armed, and no word of memory changes (rules 5.7 to 5.9)
-pub record Rested (m lent : List ℕ) (r : Turned) (pages filled left : List ℕ) : Type 0 where
-  pub memory : left ≡ m
-  pub answer : r ≡ Turned.Idle
-  pub rings : pages ≡ armed (viewOf (backendOf m)) lent ports
-  pub words : filled ≡ noWords
 
 -- the buffers have the lengths that a turn asks for (rule 7.1)
 pub record Lent (rings grants : List ℕ) : Type 0 where

@@ -1,5 +1,4 @@
 // One turn: the look for a port with something to serve, and then its service, or the arming of all open ports.
-use idle::rest;
 use memory::WORDS;
 use model::Turned;
 use model::buffer::EXTENTS_END;
@@ -8,8 +7,9 @@ use model::buffer::GRANTS;
 use model::buffer::RINGS;
 use model::buffer::TURN_WORDS;
 use model::refusal::WRONG_LENGTH;
-use pick::Pick;
-use pick::pick_port;
+use round::Pick;
+use round::pick_port;
+use round::rest;
 use serve::serve;
 ghost use mathlib.Core.Path.{_≡_};
 ghost use lib.ListN.{length};
@@ -18,8 +18,6 @@ ghost use Rattle.model.specs.Plan.{planWords};
 ghost use Rattle.memory.specs.Promise.{Promised};
 ghost use Rattle.turn.specs.Promise.{TurnPromised};
 
-mod idle;
-mod pick;
 mod serve;
 
 // A turn whose extents go to `words`. Of the rings it reads each open port's req_prod as far as it looks, once; of the port that it serves one slot, once; and

@@ -11,7 +11,7 @@ ghost use Rattle.model.specs.Buffers.{ports, ringsLength};
 ghost use Rattle.model.specs.Plan.{planWords};
 ghost use Rattle.model.specs.Turn.{armedPort, armed};
 ghost use Rattle.memory.specs.Backend.{backendOf};
-ghost use Rattle.turn.specs.Serve.{Rested};
+ghost use Rattle.round.specs.Idle.{Rested};
 
 // req_event of port k, where it is open. Reads no guest byte.
 fn arm_port(memory: &[u64; WORDS], rings: &mut [u8], k: usize)

@@ -1,0 +1,76 @@
+-- Each refusal of a call that its sheet does not settle (section 7), and when a response is told (rule 6.5), computed: no statement about histories sees
+-- which number a refusal has. Sheets have theirs beside them. Assumes nothing.
+use mathlib.Core.Path.{_≡_, refl}
+use mathlib.Core.Bool.{Bool, true, false}
+use mathlib.Core.List.{List, [], _∷_, map}
+use Prim.Native.Nat.{ℕ}
+use lib.IntN.{pos}
+use lib.ListN.{replicate}
+use Rattle.wire.specs.LittleEndian.{load}
+use Rattle.wire.specs.Part.{part}
+use Rattle.model.specs.Base.{tally}
+use Rattle.model.specs.Buffers.{ringsLength, grantsLength, pageOf}
+use Rattle.model.specs.Ring.{ringFor, rspEvent}
+use Rattle.model.specs.Port.{View, closedPort, openPort, zeroParams, zeroTag, isBusy, inFlightOf}
+use Rattle.model.specs.Calls.{Call, Open, Close, Turn, Complete, Effect}
+use Rattle.model.specs.Turn.{portId, tagId, serialOf, notifies}
+use Rattle.model.specs.Rules.{dueOpen, dueClose, dueTurn, namesNone, refusedCompletion, dueComplete, effectDue}
+use Rattle.model.specs.Backend.{emptyBackend, viewOf, withPort, startedPort}
+use Rattle.model.specs.Answers.{replyNumber, turnedNumber, completedNumber}
+
+-- port 2 has one request in flight, with tag 0 and serial 0; the others are closed
+busy : View
+busy = viewOf (withPort emptyBackend 2 (startedPort (openPort zeroParams) 0))
+
+rings : List ℕ
+rings = replicate ringsLength 0
+
+grants : List ℕ
+grants = replicate grantsLength 0
+
+abbrev number : (c : Call) → Effect c → ℕ
+number (Open p s) e = replyNumber e
+number (Close p) e = replyNumber e
+number (Turn r g w) e = turnedNumber (e .answer)
+number (Complete r p t s x) e = completedNumber (e .answer)
+
+-- a call, and the number that it is refused with
+record Refused : Type 0 where
+  number : ℕ
+  call : Call
+
+abbrev refused : ℕ → Call → Refused
+refused n c = record { number = n; call = c }
+
+calls : List Refused
+calls =
+    refused 1 (Turn [] grants [])
+    ∷ refused 1 (Turn rings [] [])
+    ∷ refused 1 (Complete [] (portId 9) (tagId 0) (serialOf 0) (pos 8))
+    ∷ refused 2 (Open (portId 8) [])
+    ∷ refused 2 (Close (portId 8))
+    ∷ refused 2 (Complete rings (portId 8) (tagId 0) (serialOf 0) (pos 8))
+    ∷ refused 3 (Open (portId 2) [])
+    ∷ refused 4 (Close (portId 4))
+    ∷ refused 4 (Complete rings (portId 4) (tagId 0) (serialOf 0) (pos 8))
+    ∷ refused 5 (Close (portId 2))
+    -- a tag above 31; a free one; another serial
+    ∷ refused 6 (Complete rings (portId 2) (tagId 32) (serialOf 0) (pos 8))
+    ∷ refused 6 (Complete rings (portId 2) (tagId 1) (serialOf 0) (pos 8))
+    ∷ refused 6 (Complete rings (portId 2) (tagId 0) (serialOf 1) (pos 8))
+    ∷ []
+
+-- port 0's page as far as its header, with an rsp_event
+abbrev header : ℕ → List ℕ
+header event = 0 ∷ 0 ∷ 0 ∷ 0 ∷ 0 ∷ 0 ∷ 0 ∷ 0 ∷ 0 ∷ 0 ∷ 0 ∷ 0 ∷ event ∷ 0 ∷ 0 ∷ 0 ∷ []
+
+record Computed : Type 0 where
+  numbers : map (λ (r : Refused). number (r .call) (effectDue busy (r .call))) calls ≡ map (λ (r : Refused). r .number) calls
+  -- the first response is told where rsp_event is 1, and only there
+  told : notifies busy (header 1) 0 ≡ true
+  untold : notifies busy (header 0) 0 ≡ false
+  late : notifies busy (header 2) 0 ≡ false
+
+computed : Computed
+unfolding busy rings grants calls load part tally pageOf rspEvent ringFor isBusy inFlightOf notifies dueOpen dueClose dueTurn namesNone refusedCompletion dueComplete effectDue viewOf withPort
+computed = record { numbers = refl; told = refl; untold = refl; late = refl }
