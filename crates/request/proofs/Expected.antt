@@ -14,9 +14,9 @@ use Rattle.model.specs.Plan.{planOf, verdictOf}
 use Rattle.model.specs.declared.Params.{Params}
 use Rattle.model.specs.declared.Plan.{Plan}
 use Rattle.model.specs.declared.Verdict.{Verdict}
-use Rattle.request.specs.Judge.{requestIn}
-use Rattle.request.proofs.Slot.{length-segments, within-total}
-use Rattle.request.proofs.Steps.{none-fails, all-passed}
+use Rattle.segments.proofs.Slot.{length-segments, within-total}
+use Rattle.checks.specs.Operations.{requestIn}
+use Rattle.checks.proofs.Steps.{none-fails, all-passed}
 use Rattle.request.proofs.Verdict.{few-segments}
 
 module _ (q : Params) (grants slot : List ℕ) (plan : Plan) (e : verdictOf q grants (requestIn q slot) ≡ Verdict.Start plan) where

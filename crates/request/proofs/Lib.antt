@@ -1,8 +1,2 @@
-pub mod Slot
-pub mod Words
-pub mod Steps
-pub mod OperationReasons
-pub mod DiskRange
-pub mod Scan
 pub mod Verdict
 pub mod Expected

@@ -19,12 +19,13 @@ use Rattle.model.specs.declared.Plan.{Plan}
 use Rattle.model.specs.declared.Status.{Status}
 use Rattle.model.specs.declared.Verdict.{Verdict}
 use Rattle.model.proofs.Base.{clash}
-use Rattle.request.specs.Judge.{requestIn, Judged, emptyStart, discardStart, dataStart}
-use Rattle.request.specs.Segments.{passes}
-use Rattle.request.proofs.Words.{length-extents}
-use Rattle.request.proofs.OperationReasons.{is-unknown}
-use Rattle.request.proofs.Scan.{passes-each, passes-within, passes-granted}
-use Rattle.request.proofs.Steps.{none-fails, by-steps, andThen}
+use Rattle.segments.specs.Segments.{passes}
+use Rattle.segments.proofs.Pass.{passes-each, passes-within, passes-granted}
+use Rattle.segments.proofs.Words.{length-extents}
+use Rattle.checks.specs.Operations.{requestIn}
+use Rattle.checks.proofs.OperationReasons.{is-unknown}
+use Rattle.checks.proofs.Steps.{none-fails, by-steps, andThen}
+use Rattle.request.specs.Judge.{Judged, emptyStart, discardStart, dataStart}
 
 -- ---- what a request is that is known, of a right amount, and no discard
 

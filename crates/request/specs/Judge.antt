@@ -3,14 +3,10 @@ use mathlib.Core.Path.{_≡_}
 use mathlib.Core.Bool.{Bool, false}
 use mathlib.Core.List.{List}
 use Prim.Native.Nat.{ℕ}
-use Rattle.model.specs.Ring.{Request, layoutOf, requestOf}
 use Rattle.model.specs.Plan.{verdictOf, wordsBeside}
 use Rattle.model.specs.declared.Params.{Params}
 use Rattle.model.specs.declared.Verdict.{Verdict}
-
--- the request that the slot's bytes spell in the port's layout (rules 2.5 and 2.8)
-abbrev pub requestIn : Params → List ℕ → Request
-requestIn p slot = requestOf (layoutOf (p .abi)) slot
+use Rattle.checks.specs.Operations.{requestIn}
 
 -- The verdict is the model's (rule 5.19), and beside it stand the words of its extents: all zero beside a refusal (rule 5.34).
 pub record Judged (p : Params) (grants slot : List ℕ) (v : Verdict) (words : List ℕ) : Type 0 where

@@ -1,6 +1,5 @@
 // One request, judged: the checks 21 to 29 over the copy of its slot, and the plan of a request that passes them.
 // Only the copy is read, so nothing that a guest writes meanwhile can change a field between its check and its use.
-use crate::segments::Counted;
 use model::Checked;
 use model::Params;
 use model::Plan;
@@ -12,6 +11,8 @@ use model::layout::REQUEST_OPERATION;
 use model::layout::SLOT;
 use model::operation::DISCARD;
 use model::reason::READ_ONLY;
+use segments::Counted;
+use segments::extents;
 ghost use mathlib.Core.Bool.{cond};
 ghost use mathlib.Core.Path.{_≡_};
 ghost use lib.Dec.{ltb};
@@ -21,13 +22,8 @@ ghost use Rattle.model.specs.Plan.{planWords, noWords};
 ghost use Rattle.model.specs.Ring.{layoutOf, requestOf};
 ghost use Rattle.model.specs.declared.Status.{Status as Due};
 ghost use Rattle.model.specs.declared.Verdict.{Verdict as Judgement};
-ghost use Rattle.request.specs.Judge.{requestIn, Judged, emptyStart, discardStart, dataStart};
-ghost use Rattle.request.specs.Operations.{operationReason};
-
-mod disk_range;
-mod extents;
-mod operations;
-mod segments;
+ghost use Rattle.checks.specs.Operations.{requestIn, operationReason};
+ghost use Rattle.request.specs.Judge.{Judged, emptyStart, discardStart, dataStart};
 
 // What the guest tells this request apart by: its id and operation.
 pub fn pair_of(abi: model::Abi, slot: &[u8; SLOT]) -> model::Pair
@@ -38,14 +34,6 @@ pub fn pair_of(abi: model::Abi, slot: &[u8; SLOT]) -> model::Pair
         id: wire::u64_at(slot, at),
         operation: slot[REQUEST_OPERATION],
     }
-}
-
-// The words of a turn that has no plan: all zero.
-pub fn no_extents(words: &mut [u64])
-    requires { ⌜ length (now words) ≡ planWords ⌝ }
-    ensures { λ _. ⌜ now (words .exit) ≡ noWords ⌝ }
-{
-    extents::clear_from(words, 0);
 }
 
 // A refusal, and no extents.
@@ -124,7 +112,7 @@ fn discard(params: Params, slot: &[u8; SLOT], grants: &[u8], words: &mut [u64]) 
     let start = wire::u64_at(slot, start_at);
     let count_at = layout::segments_at(abi);
     let count = wire::u64_at(slot, count_at);
-    let range = disk_range::check_range(params, start, count);
+    let range = checks::check_range(params, start, count);
     match range {
         Checked::Refused(reason, status) => {
             return refuse(reason, status, words);
@@ -159,7 +147,7 @@ fn data(params: Params, slot: &[u8; SLOT], grants: &[u8], words: &mut [u64]) -> 
             );
         }
         Counted::Sectors(count) => {
-            let range = disk_range::check_range(params, start, count);
+            let range = checks::check_range(params, start, count);
             match range {
                 Checked::Refused(reason, status) => {
                     return refuse(reason, status, words);
@@ -178,7 +166,7 @@ pub fn judge(params: Params, slot: &[u8; SLOT], grants: &[u8], words: &mut [u64]
     requires { ⌜ (length (now grants) ≡ grantShare) × (length (now words) ≡ planWords) ⌝ }
     ensures { λ r. ⌜ Judged params (now (grants .entry)) (now (slot .entry)) r (now (words .exit)) ⌝ }
 {
-    let reason = operations::operation_reason(params, slot);
+    let reason = checks::operation_reason(params, slot);
     if reason != 0 {
         extents::clear_from(words, 0);
         return Verdict::Refused(reason, status_of(reason));

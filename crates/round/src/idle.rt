@@ -47,6 +47,6 @@ pub fn rest(memory: &mut [u64; WORDS], rings: &mut [u8], words: &mut [u64]) -> T
     ensures { λ r. ⌜ Rested (now (memory .entry)) (now (rings .entry)) r (now (rings .exit)) (now (words .exit)) (now (memory .exit)) ⌝ }
 {
     arm_ports(memory, rings);
-    request::no_extents(words);
+    segments::extents::no_extents(words);
     Turned::Idle
 }

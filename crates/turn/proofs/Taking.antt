@@ -25,7 +25,7 @@ use Rattle.model.specs.declared.Port.{Port}
 use Rattle.model.specs.declared.Status.{Status}
 use Rattle.model.specs.declared.Turned.{Turned}
 use Rattle.model.specs.declared.Verdict.{Verdict}
-use Rattle.request.specs.Judge.{requestIn}
+use Rattle.checks.specs.Operations.{requestIn}
 use Rattle.memory.specs.Backend.{backendOf}
 use Rattle.turn.specs.Serve.{Reads, Room, Broke, Began, Declined, Turns, settledAt}
 use Rattle.model.proofs.View.{view-params, view-consumed}

@@ -164,7 +164,7 @@ pub fn serve(
     let d = ring::distance(published, memory::consumed(memory, k));
     let marks = memory::busy_marks(memory, k);
     if overruns(memory::abi(memory, k), marks, d) {
-        request::no_extents(words);
+        segments::extents::no_extents(words);
         return overrun(memory, k);
     }
     take(memory, rings, grants, words, k)

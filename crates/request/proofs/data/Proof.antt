@@ -10,12 +10,12 @@ use Rattle.model.specs.Ring.{Request, requestOf, layoutOf}
 use Rattle.model.specs.Checks.{totalSectors, operationChecks, diskChecks, firstFailed}
 use Rattle.model.specs.Plan.{extentWords}
 use Rattle.model.specs.declared.Checked.{Checked}
-use Rattle.request.specs.Judge.{requestIn}
-use Rattle.request.specs.Segments.{passes, Scanned}
-use Rattle.request.proofs.DiskRange.{passed-within}
-use Rattle.request.proofs.Slot.{length-segments}
-use Rattle.request.proofs.Scan.{scan-fault, scan-sectors, words-all}
-use Rattle.request.proofs.Steps.{operation-passed}
+use Rattle.segments.specs.Segments.{passes, Scanned}
+use Rattle.segments.proofs.Pass.{scan-fault, scan-sectors, words-all}
+use Rattle.segments.proofs.Slot.{length-segments}
+use Rattle.checks.specs.Operations.{requestIn}
+use Rattle.checks.proofs.DiskRange.{passed-within}
+use Rattle.checks.proofs.Steps.{operation-passed}
 use Rattle.request.proofs.Verdict.{data-few, data-fault, data-refused, data-started, data-extents, same-start, judged-refused, judged-start}
 use Rattle.request.proofs.data.Statement.{statement}
 use Rattle.request.proofs.data.Tie as tie

@@ -7,8 +7,8 @@ use Rattle.model.specs.Ring.{Request, requestOf}
 use Rattle.model.specs.Checks.{operationChecks, diskChecks, firstFailed}
 use Rattle.model.specs.Plan.{extentWords}
 use Rattle.model.specs.declared.Checked.{Checked}
-use Rattle.request.specs.Judge.{requestIn}
-use Rattle.request.proofs.Steps.{operation-passed}
+use Rattle.checks.specs.Operations.{requestIn}
+use Rattle.checks.proofs.Steps.{operation-passed}
 use Rattle.request.proofs.Verdict.{discard-refused, discard-started, discard-extents, same-start, judged-refused, judged-start}
 use Rattle.request.proofs.discard.Statement.{statement}
 use Rattle.request.proofs.discard.Tie as tie

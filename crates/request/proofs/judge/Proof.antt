@@ -4,8 +4,8 @@ use mathlib.Core.Path.{_≡_, sym, ap, _∙_}
 use mathlib.Core.List.{[]}
 use Rattle.model.specs.Ring.{requestOf, segmentsOf}
 use Rattle.model.specs.Plan.{extentWords}
-use Rattle.request.specs.Judge.{requestIn}
-use Rattle.request.proofs.Steps.{operation-passed, operation-refused}
+use Rattle.checks.specs.Operations.{requestIn}
+use Rattle.checks.proofs.Steps.{operation-passed, operation-refused}
 use Rattle.request.proofs.Verdict.{operation-verdict, empty-started, empty-extents, judged-refused, judged-start}
 use Rattle.request.proofs.judge.Statement.{statement}
 use Rattle.request.proofs.judge.Tie as tie

@@ -8,7 +8,7 @@ use Rattle.wire.specs.Part.{part}
 use Rattle.model.specs.Buffers.{pageShare, grantsOf}
 use Rattle.model.specs.Plan.{wordsBeside}
 use Rattle.model.specs.Ring.{slotBytes, ringOf, slotAt}
-use Rattle.request.specs.Judge.{requestIn}
+use Rattle.checks.specs.Operations.{requestIn}
 use Rattle.request.proofs.Expected.{expected-fits}
 use Rattle.memory.specs.Backend.{backendOf}
 use Rattle.turn.specs.Serve.{Reads}

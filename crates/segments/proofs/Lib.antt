@@ -1,0 +1,3 @@
+pub mod Slot
+pub mod Words
+pub mod Pass
