@@ -8,7 +8,7 @@ use lib.Dec.{ltb}
 use lib.ListN.{length, replicate}
 use lib.Seq.{take-at}
 use Rattle.wire.specs.Part.{part}
-use Rattle.model.specs.Answers.{replyNumber, turnedNumber, turnedWords, completedNumber, completedWords, magnitude, yesNo, extentsIn}
+use Rattle.model.specs.Answers.{replyNumber, turnedNumber, turnedWords, completedNumber, magnitude, yesNo, extentsIn, turnAnswer, turnLeft, doneLeft}
 use Rattle.model.specs.Buffers.{ports, areRings, areGrants}
 use Rattle.model.specs.Calls.{TurnEffect}
 use Rattle.model.specs.Plan.{Extent, extentWords, wordsBeside}
@@ -24,7 +24,6 @@ use Rattle.model.specs.declared.Turned.{Turned}
 use Rattle.model.specs.declared.Verdict.{Verdict}
 use Rattle.model.proofs.Base.{by-cond}
 use Rattle.kernelharp.specs.Decode.{replyOf, statusSaid, saysYes, turnedOf, completedOf}
-use Rattle.kernelharp.specs.Promise.{turnAnswer, doneAnswer}
 use Rattle.kernelharp.proofs.Numbers.{NumberedReply, Numbered}
 
 -- ---- the answers out of numbers and words
@@ -43,11 +42,10 @@ status-decoded Status.Okay = refl
 status-decoded Status.Error = refl
 status-decoded Status.NotSupported = refl
 
-pub completed-decoded : (r : Completed) (words : List ℕ) → Numbered r → (completedNumber r ≡ 0 → words ≡ doneAnswer (completedWords r))
-    → completedOf (completedNumber r) words ≡ r
-completed-decoded (Completed.Refused zero) words h w = absurd (h refl)
-completed-decoded (Completed.Refused (suc n)) words h w = refl
-completed-decoded (Completed.Done p z y) words h w = rw (w refl, status-decoded z, yes-decoded y)
+pub completed-decoded : (r : Completed) (answer words : List ℕ) → Numbered r → words ≡ doneLeft r answer → completedOf (completedNumber r) words ≡ r
+completed-decoded (Completed.Refused zero) answer words h w = absurd (h refl)
+completed-decoded (Completed.Refused (suc n)) answer words h w = refl
+completed-decoded (Completed.Done p z y) answer words h w = rw (w, status-decoded z, yes-decoded y)
 
 -- a refused turn has a number
 abbrev pub NumberedTurned : Turned → Type 0
@@ -57,14 +55,14 @@ NumberedTurned (Turned.Overrun p) = Unit
 NumberedTurned (Turned.Started p t s plan) = Unit
 NumberedTurned (Turned.Answered p n z y) = Unit
 
-pub turned-decoded : (r : Turned) (extents words : List ℕ) → NumberedTurned r → (turnedNumber r ≡ 0 → words ≡ turnAnswer (turnedWords r) extents)
+pub turned-decoded : (r : Turned) (answer extents words : List ℕ) → NumberedTurned r → words ≡ turnLeft r answer extents
     → turnedOf (turnedNumber r) words ≡ r
-turned-decoded (Turned.Refused zero) extents words h w = absurd (h refl)
-turned-decoded (Turned.Refused (suc n)) extents words h w = refl
-turned-decoded Turned.Idle extents words h w = rw (w refl)
-turned-decoded (Turned.Overrun p) extents words h w = rw (w refl)
-turned-decoded (Turned.Started p t s plan) extents words h w = rw (w refl, yes-decoded (plan .secure))
-turned-decoded (Turned.Answered p n z y) extents words h w = rw (w refl, status-decoded z, yes-decoded y)
+turned-decoded (Turned.Refused zero) answer extents words h w = absurd (h refl)
+turned-decoded (Turned.Refused (suc n)) answer extents words h w = refl
+turned-decoded Turned.Idle answer extents words h w = rw w
+turned-decoded (Turned.Overrun p) answer extents words h w = rw w
+turned-decoded (Turned.Started p t s plan) answer extents words h w = rw (w, yes-decoded (plan .secure))
+turned-decoded (Turned.Answered p n z y) answer extents words h w = rw (w, status-decoded z, yes-decoded y)
 
 -- ---- the extents out of the answer
 

@@ -1,4 +1,3 @@
-pub mod Words
 pub mod Numbers
 pub mod Returns
 pub mod Decode

@@ -4,8 +4,7 @@ use mathlib.Core.List.{List, [], _∷_}
 use Prim.Native.Nat.{ℕ}
 use native.Mathlib.Omega.{arith}
 use lib.ListN.{length}
-use borrow.Author.Tests.{ne-eqb}
-use Rattle.model.specs.Answers.{refusal, turnedNumber, turnedWords, completedNumber, completedWords, extentsIn}
+use Rattle.model.specs.Answers.{refusal, turnedNumber, completedNumber, extentsIn, turnLeft, doneLeft}
 use Rattle.model.specs.Backend.{Backend, viewOf, next, afterCall}
 use Rattle.model.specs.Calls.{Effect, TurnEffect, CompleteEffect, Event}
 use Rattle.model.specs.Demand.{All}
@@ -24,7 +23,7 @@ use Rattle.memory.proofs.Zeros.{backend-zeros, zeros-exact, zeros-memory}
 use Rattle.backend.proofs.Every.{CallOutcome, outcome}
 use Rattle.backend.proofs.Runs.{promised-told, told-clean, zeros-told}
 use Rattle.kernelharp.specs.Decode.{replyOf, turnedOf, completedOf}
-use Rattle.kernelharp.specs.Promise.{dueOn, Returned, answerLeft, turnAnswer, turnCall, doneAnswer, completeCall}
+use Rattle.kernelharp.specs.Promise.{dueOn, Returned, turnCall, completeCall}
 use Rattle.kernelharp.specs.Run.{Made, khOpen, khClose, khTurn, khComplete, Outcome, Step, memoryLeft, memoryAfter, callOf, effectOf, eventOf, eventsAfter, historyOf, Promise, Run, BytesLent, outcomeOf, WordForWord, Holds, RunOf, Theorem}
 use Rattle.kernelharp.proofs.Numbers.{open-numbered, close-numbered, WordsKept, TurnKeeps, turn-keeps, NumberedIn, complete-numbered}
 use Rattle.kernelharp.proofs.Decode.{reply-decoded, NumberedTurned, turned-decoded, completed-decoded, Long, turn-long, extents-decoded}
@@ -40,32 +39,28 @@ kept-numbered lent left (Turned.Overrun p) k = tt
 kept-numbered lent left (Turned.Started p t s plan) k = tt
 kept-numbered lent left (Turned.Answered p n z y) k = tt
 
-extents-left : (r : Turned) (xs answer words : List ℕ) (n : ℕ) → WordsKept (extentsIn answer) xs r → NumberedTurned r
-    → (turnedNumber r ≡ 0 → length xs ≡ 44) → n ≡ turnedNumber r → words ≡ answerLeft n answer (turnAnswer (turnedWords r) xs) → extentsIn words ≡ xs
-extents-left (Turned.Refused i) xs answer words n k d l h w =
-    let same : words ≡ answer = w ∙ rw (ne-eqb n 0 (λ z. d (sym h ∙ z))) in
-    ap extentsIn same ∙ sym (k .0)
-extents-left Turned.Idle xs answer words n k d l h w = rw (w, h) (extents-decoded Turned.Idle xs d refl (l refl))
-extents-left (Turned.Overrun p) xs answer words n k d l h w = rw (w, h) (extents-decoded (Turned.Overrun p) xs d refl (l refl))
-extents-left (Turned.Started p t s plan) xs answer words n k d l h w = rw (w, h) (extents-decoded (Turned.Started p t s plan) xs d refl (l refl))
-extents-left (Turned.Answered p i z y) xs answer words n k d l h w = rw (w, h) (extents-decoded (Turned.Answered p i z y) xs d refl (l refl))
+extents-left : (r : Turned) (xs answer words : List ℕ) → WordsKept (extentsIn answer) xs r → NumberedTurned r
+    → (turnedNumber r ≡ 0 → length xs ≡ 44) → words ≡ turnLeft r answer xs → extentsIn words ≡ xs
+extents-left (Turned.Refused i) xs answer words k d l w = ap extentsIn w ∙ sym (k .0)
+extents-left Turned.Idle xs answer words k d l w = rw w (extents-decoded Turned.Idle xs d refl (l refl))
+extents-left (Turned.Overrun p) xs answer words k d l w = rw w (extents-decoded (Turned.Overrun p) xs d refl (l refl))
+extents-left (Turned.Started p t s plan) xs answer words k d l w = rw w (extents-decoded (Turned.Started p t s plan) xs d refl (l refl))
+extents-left (Turned.Answered p i z y) xs answer words k d l w = rw w (extents-decoded (Turned.Answered p i z y) xs d refl (l refl))
 
 turn-effect : (e : TurnEffect) (answer : List ℕ) (n : ℕ) (pages words : List ℕ) → TurnKeeps (extentsIn answer) e → Long e → n ≡ turnedNumber (e .answer)
-    → pages ≡ e .rings → words ≡ answerLeft n answer (turnAnswer (turnedWords (e .answer)) (e .words))
+    → pages ≡ e .rings → words ≡ turnLeft (e .answer) answer (e .words)
     → _≡_ {A = TurnEffect} (record { rings = pages; words = extentsIn words; answer = turnedOf n words }) e
 turn-effect e answer n pages words k l h p w =
     let d = kept-numbered (extentsIn answer) (e .words) (e .answer) k in
-    let done : turnedNumber (e .answer) ≡ 0 → words ≡ turnAnswer (turnedWords (e .answer)) (e .words) = λ z. w ∙ rw (h, z) in
-    let a : turnedOf n words ≡ e .answer = ap (λ (z : ℕ). turnedOf z words) h ∙ turned-decoded (e .answer) (e .words) words d done in
-    let x : extentsIn words ≡ e .words = extents-left (e .answer) (e .words) answer words n k d l h w in
+    let a : turnedOf n words ≡ e .answer = ap (λ (z : ℕ). turnedOf z words) h ∙ turned-decoded (e .answer) answer (e .words) words d w in
+    let x : extentsIn words ≡ e .words = extents-left (e .answer) (e .words) answer words k d l w in
     λ i. record { rings = p i; words = x i; answer = a i }
 
 complete-effect : (e : CompleteEffect) (answer : List ℕ) (n : ℕ) (pages words : List ℕ) → NumberedIn e → n ≡ completedNumber (e .answer)
-    → pages ≡ e .rings → words ≡ answerLeft n answer (doneAnswer (completedWords (e .answer)))
+    → pages ≡ e .rings → words ≡ doneLeft (e .answer) answer
     → _≡_ {A = CompleteEffect} (record { rings = pages; answer = completedOf n words }) e
 complete-effect e answer n pages words d h p w =
-    let a : completedOf n words ≡ e .answer =
-    ap (λ (z : ℕ). completedOf z words) h ∙ completed-decoded (e .answer) words d (λ z. w ∙ rw (h, z)) in
+    let a : completedOf n words ≡ e .answer = ap (λ (z : ℕ). completedOf z words) h ∙ completed-decoded (e .answer) answer words d w in
     λ i. record { rings = p i; answer = a i }
 
 -- so the step's own event is the one due
@@ -111,13 +106,9 @@ left-due : (m : List ℕ) (c : Made) (o : Outcome c) → Promise m c o → Exact
 left-due m (khOpen p sheet) o r x = λ i. record { number = r .number i; memory = r .becomes .words x i }
 left-due m (khClose p) o r x = λ i. record { number = r .number i; memory = r .becomes .words x i }
 left-due m (khTurn rings grants answer) o r x =
-    let e = dueOn m (turnCall rings grants answer) in
-    let a = r .answerDue ∙ ap (λ (n : ℕ). answerLeft n answer (turnAnswer (turnedWords (e .answer)) (e .words))) (r .returned .number) in
-    λ i. record { number = r .returned .number i; rings = r .ringsDue i; answer = a i; memory = r .returned .becomes .words x i }
+    λ i. record { number = r .returned .number i; rings = r .ringsDue i; answer = r .answerDue i; memory = r .returned .becomes .words x i }
 left-due m (khComplete rings p t s x answer) o r y =
-    let e = dueOn m (completeCall rings p t s x) in
-    let a = r .answerDue ∙ ap (λ (n : ℕ). answerLeft n answer (doneAnswer (completedWords (e .answer)))) (r .returned .number) in
-    λ i. record { number = r .returned .number i; rings = r .ringsDue i; answer = a i; memory = r .returned .becomes .words y i }
+    λ i. record { number = r .returned .number i; rings = r .ringsDue i; answer = r .answerDue i; memory = r .returned .becomes .words y i }
 
 -- what the step's own event makes of the backend is what the one due makes
 step-next : (m : List ℕ) (s : Step) → Promise m (s .made) (s .left) → next (backendOf m) (eventOf s) ≡ afterCall (backendOf m) (callOf (s .made))

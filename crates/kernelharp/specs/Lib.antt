@@ -1,4 +1,3 @@
 pub mod Promise
-pub mod Steps
 pub mod Decode
 pub mod Run

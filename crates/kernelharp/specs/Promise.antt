@@ -1,13 +1,10 @@
 -- What the functions of the C interface promise, for all that C can hand in: the number returned, every byte and word left, and the memory after. All of it is
 -- what the rules make due on what the memory says (rules 14.1 to 14.9): the interface adds only numbers for answers, and places for their words.
 use mathlib.Core.Path.{_≡_}
-use mathlib.Core.Bool.{cond}
-use mathlib.Core.List.{List, [], _∷_, _++_}
+use mathlib.Core.List.{List, []}
 use Prim.Native.Nat.{ℕ}
-use lib.Dec.{eqb}
 use lib.IntN.{ℤ}
-use lib.ListN.{replicate}
-use Rattle.model.specs.Answers.{refusal, turnedWords, completedWords, extentsIn}
+use Rattle.model.specs.Answers.{refusal, extentsIn, turnLeft, doneLeft}
 use Rattle.model.specs.Backend.{viewOf, afterCall}
 use Rattle.model.specs.Calls.{Call, Turn, Complete, Effect}
 use Rattle.model.specs.Deeds.{deeds}
@@ -26,15 +23,7 @@ pub record Returned (memory : List ℕ) (c : Call) (n : ℕ) (left : List ℕ) :
   pub becomes : Becomes memory (afterCall (backendOf memory) c) left
   pub still : deeds c (dueOn memory c) ≡ [] → left ≡ memory
 
--- an answer's words after a function that returned n: a refusal leaves them
-abbrev pub answerLeft : ℕ → List ℕ → List ℕ → List ℕ
-answerLeft n lent written = cond (eqb n 0) written lent
-
 -- ---- kh_turn
-
--- the 64 words: twelve values, four zeros, the extents, four zeros
-abbrev pub turnAnswer : List ℕ → List ℕ → List ℕ
-turnAnswer values extents = values ++ replicate 4 0 ++ extents ++ replicate 4 0
 
 -- the turn that is lent such an answer
 abbrev pub turnCall : List ℕ → List ℕ → List ℕ → Call
@@ -45,15 +34,9 @@ pub record TurnReturned (memory rings grants answer : List ℕ) (n : ℕ) (pages
   pub returned : Returned memory (turnCall rings grants answer) n left
   pub ringsDue : pages ≡ dueOn memory (turnCall rings grants answer) .rings
   pub answerDue :
-      words
-      ≡ answerLeft n answer
-      (turnAnswer (turnedWords (dueOn memory (turnCall rings grants answer) .answer)) (dueOn memory (turnCall rings grants answer) .words))
+      words ≡ turnLeft (dueOn memory (turnCall rings grants answer) .answer) answer (dueOn memory (turnCall rings grants answer) .words)
 
 -- ---- kh_complete
-
--- the four words: three values and a zero
-abbrev pub doneAnswer : List ℕ → List ℕ
-doneAnswer values = values ++ 0 ∷ []
 
 abbrev pub completeCall : List ℕ → ℕ → ℕ → ℕ → ℤ → Call
 completeCall rings port tag serial result = Complete rings (portId port) (tagId tag) (serialOf serial) result
@@ -62,4 +45,4 @@ completeCall rings port tag serial result = Complete rings (portId port) (tagId 
 pub record CompleteReturned (memory rings : List ℕ) (port tag serial : ℕ) (result : ℤ) (answer : List ℕ) (n : ℕ) (pages words left : List ℕ) : Type 0 where
   pub returned : Returned memory (completeCall rings port tag serial result) n left
   pub ringsDue : pages ≡ dueOn memory (completeCall rings port tag serial result) .rings
-  pub answerDue : words ≡ answerLeft n answer (doneAnswer (completedWords (dueOn memory (completeCall rings port tag serial result) .answer)))
+  pub answerDue : words ≡ doneLeft (dueOn memory (completeCall rings port tag serial result) .answer) answer

@@ -5,7 +5,7 @@ use mathlib.Core.Path.{_≡_}
 use mathlib.Core.List.{List, [], _∷_, map}
 use Prim.Native.Nat.{ℕ}
 use lib.IntN.{ℤ}
-use Rattle.model.specs.Answers.{replyNumber, turnedNumber, turnedWords, completedNumber, completedWords, extentsIn}
+use Rattle.model.specs.Answers.{replyNumber, turnedNumber, completedNumber, extentsIn, turnLeft, doneLeft}
 use Rattle.model.specs.Backend.{Backend, emptyBackend, viewOf, next}
 use Rattle.model.specs.Calls.{Call, Open, Close, Effect, Event}
 use Rattle.model.specs.Demand.{All, LendsBytes, Demand3}
@@ -15,7 +15,7 @@ use Rattle.model.specs.Turn.{portId}
 use Rattle.memory.specs.Backend.{backendOf, memoryOf, Clean}
 use Rattle.memory.specs.Words.{zeros}
 use Rattle.kernelharp.specs.Decode.{replyOf, turnedOf, completedOf}
-use Rattle.kernelharp.specs.Promise.{Returned, answerLeft, turnAnswer, turnCall, TurnReturned, doneAnswer, completeCall, CompleteReturned}
+use Rattle.kernelharp.specs.Promise.{Returned, turnCall, TurnReturned, completeCall, CompleteReturned}
 
 -- ---- steps
 
@@ -112,11 +112,9 @@ abbrev pub outcomeOf : (c : Made) → Effect (callOf c) → List ℕ → Outcome
 outcomeOf (khOpen p sheet) e m = record { number = replyNumber e; memory = m }
 outcomeOf (khClose p) e m = record { number = replyNumber e; memory = m }
 outcomeOf (khTurn rings grants answer) e m =
-    let n = turnedNumber (e .answer) in
-    record { number = n; rings = e .rings; answer = answerLeft n answer (turnAnswer (turnedWords (e .answer)) (e .words)); memory = m }
+    record { number = turnedNumber (e .answer); rings = e .rings; answer = turnLeft (e .answer) answer (e .words); memory = m }
 outcomeOf (khComplete rings p t s x answer) e m =
-    let n = completedNumber (e .answer) in
-    record { number = n; rings = e .rings; answer = answerLeft n answer (doneAnswer (completedWords (e .answer))); memory = m }
+    record { number = completedNumber (e .answer); rings = e .rings; answer = doneLeft (e .answer) answer; memory = m }
 
 -- Each step, after the events h and with b the backend that they made, left exactly what the rules give on that history, and the memory that its own event makes
 -- of that backend.

@@ -8,7 +8,6 @@ mod closing;
 mod completing;
 mod opening;
 mod turning;
-mod values;
 
 pub use closing::kh_close;
 pub use completing::kh_complete;

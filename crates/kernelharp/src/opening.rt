@@ -1,5 +1,5 @@
 // kh_open
-use crate::values::number;
+use answers::number;
 use memory::WORDS;
 use model::PortId;
 ghost use Rattle.kernelharp.specs.Run.{khOpen, Promise};

@@ -7,6 +7,7 @@ use lib.ListN.{replicate}
 use Rattle.wire.specs.Part.{part}
 use Rattle.model.specs.Ring.{statusNumber}
 use Rattle.model.specs.Calls.{Call, Open, Close, Turn, Complete, Effect}
+use Rattle.model.specs.Plan.{planWords}
 use Rattle.model.specs.declared.Completed.{Completed}
 use Rattle.model.specs.declared.Reply.{Reply}
 use Rattle.model.specs.declared.Status.{Status}
@@ -61,8 +62,24 @@ completedWords (Completed.Done p z y) = p .0 ∷ magnitude z ∷ yesNo y ∷ []
 abbrev pub extentsAt : ℕ
 extentsAt = 16
 
-abbrev pub extentsLength : ℕ
-extentsLength = 44
-
 abbrev pub extentsIn : List ℕ → List ℕ
-extentsIn answer = part extentsLength answer extentsAt
+extentsIn answer = part planWords answer extentsAt
+
+-- a turn's 64 words: twelve values, four zeros, the extents, four zeros (rule 14.7)
+abbrev pub turnAnswer : List ℕ → List ℕ → List ℕ
+turnAnswer values extents = values ++ replicate 4 0 ++ extents ++ replicate 4 0
+
+-- a completion's four words: three values and a zero (rule 14.8)
+abbrev pub doneAnswer : List ℕ → List ℕ
+doneAnswer values = values ++ 0 ∷ []
+
+-- the words lent for an answer, after the call: written over, but left by a refusal, which has no values (rule 14.6)
+abbrev pub answerLeft : (values lent written : List ℕ) → List ℕ
+answerLeft [] lent written = lent
+answerLeft (v ∷ values) lent written = written
+
+abbrev pub turnLeft : Turned → (lent extents : List ℕ) → List ℕ
+turnLeft r lent extents = answerLeft (turnedWords r) lent (turnAnswer (turnedWords r) extents)
+
+abbrev pub doneLeft : Completed → (lent : List ℕ) → List ℕ
+doneLeft r lent = answerLeft (completedWords r) lent (doneAnswer (completedWords r))

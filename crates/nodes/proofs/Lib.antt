@@ -1,4 +1,3 @@
-pub mod Entries
 pub mod Order
 pub mod Texts
 pub mod Values

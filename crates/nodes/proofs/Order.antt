@@ -1,36 +1,18 @@
 -- The laws of the whole sheet's reader: what each of its tests settles, in the order of the tests. Assumes nothing.
 use mathlib.Core.Path.{_≡_, sym, ap, _∙_}
-use mathlib.Core.Bool.{Bool, true, false, not, _&&_}
+use mathlib.Core.Bool.{Bool, true, false, not}
 use mathlib.Core.List.{List}
-use Prim.Native.Nat.{ℕ, _+_, _*_, _<_, _≤_}
-use native.Mathlib.Omega.{arith}
-use lib.Dec.{eqb, ltb, leb}
-use lib.ListN.{length, getD}
-use borrow.Author.Tests.{ltb-true, leb-true, eqb-true, not-true, not-false}
-use Rattle.model.specs.Base.{all}
-use Rattle.model.specs.NodeSheet.{entryAt, entryCount, entriesOf, bodiesEnd, wellFormed, rising, afterBodies, valuesOf, paramsOf, hasRequired, sheetOf}
+use Prim.Native.Nat.{ℕ}
+use lib.ListN.{getD}
+use borrow.Author.Tests.{not-true, not-false}
+use Rattle.model.specs.NodeSheet.{entriesOf, wellFormed, rising, afterBodies, valuesOf, paramsOf, hasRequired, sheetOf}
 use Rattle.model.specs.declared.Params.{Params}
 use Rattle.model.specs.declared.Sheet.{Sheet}
-use Rattle.model.proofs.Base.{and-left, and-right}
-use Rattle.nodes.specs.Contents.{Contents, isClear}
+use Rattle.contents.specs.Contents.{Contents}
+use Rattle.contents.proofs.Entries.{formed-parts}
 use Rattle.nodes.specs.declared.bodies.Bodies.{Bodies}
 use Rattle.nodes.specs.declared.bodies.Fault.{Fault}
 use Rattle.nodes.specs.Values.{Readable, refusedOr, BodiesRead}
-use Rattle.nodes.proofs.Entries.{ends-least}
-
--- a well-formed sheet has its table of contents, and its bodies end it
-formed-parts : (s : List ℕ) → wellFormed s ≡ true → Contents s × (bodiesEnd (entryCount s) s 0 (entryAt (entryCount s)) ≡ length s)
-unfolding wellFormed entryAt
-formed-parts s h =
-    let a = ltb 0 (length s) in
-    let b = leb (entryCount s) 9 in
-    let c = all isClear (entriesOf s) in
-    let place = bodiesEnd (entryCount s) s 0 (1 + 4 * entryCount s) in
-    let ab = and-left (a && b) c (and-left (a && b && c) (eqb place (length s)) h) in
-    let end : place ≡ length s = eqb-true place (length s) (and-right (a && b && c) (eqb place (length s)) h) in
-    let some : 0 < length s = ltb-true 0 (length s) (and-left a b ab) in
-    let few : entryCount s ≤ 9 = leb-true (entryCount s) 9 (and-right a b ab) in
-    (record { some = some; few = few; whole = omega (arith, ends-least (entryCount s) s 0 (1 + 4 * entryCount s)) }, end)
 
 -- what `read_sheet` learns, test by test: whether the sheet is well formed, whether its nodes rise, its bodies, whether it has what is required
 module _ (s : List ℕ) (f : Bool) (formed : f ≡ wellFormed s) where

@@ -16,7 +16,7 @@ use Rattle.model.specs.declared.Sheet.{Sheet}
 use Rattle.model.proofs.Base.{and-left, and-right}
 use Rattle.nodes.specs.Values.{Readable, BodiesRead}
 use Rattle.nodes.specs.declared.bodies.Fault.{Fault}
-use Rattle.nodes.proofs.Entries.{left, left-all, left-next, left-none, ends, ends-all, ends-next, body-within}
+use Rattle.contents.proofs.Entries.{left, left-all, left-next, left-none, ends, ends-all, ends-next, body-within}
 
 -- ---- rising nodes
 

@@ -7,7 +7,7 @@ use lib.ListN.{length, getD}
 use Rattle.model.specs.NodeSheet.{Entry, entryAt, entryCount, entriesOf, bodiesEnd, rising, afterBodies, valuesOf}
 use Rattle.model.specs.declared.Body.{Body}
 use Rattle.model.specs.declared.Sheet.{Sheet}
-use Rattle.nodes.specs.Contents.{Contents}
+use Rattle.contents.specs.Contents.{Contents}
 use Rattle.nodes.specs.declared.bodies.Bodies.{Bodies}
 use Rattle.nodes.specs.declared.bodies.Fault.{Fault}
 

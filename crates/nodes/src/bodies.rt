@@ -1,10 +1,10 @@
 // The bodies of a sheet, read in turn.
-use crate::contents::ENTRIES;
-use crate::contents::ENTRY;
-use crate::contents::body_length;
-use crate::contents::entry_count;
-use crate::contents::node_at;
 use crate::text::read_body;
+use contents::ENTRIES;
+use contents::ENTRY;
+use contents::body_length;
+use contents::entry_count;
+use contents::node_at;
 use model::Body;
 use model::node::PLACES;
 ghost use mathlib.Core.Path.{_≡_};

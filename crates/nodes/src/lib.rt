@@ -2,9 +2,9 @@
 // The sheet is read in place and in one pass over its bodies; the table of contents, at most 9 entries, is walked more than once.
 use crate::bodies::Fault;
 use crate::bodies::read_bodies;
-use crate::contents::has_node;
-use crate::contents::nodes_rise;
-use crate::contents::well_formed;
+use contents::has_node;
+use contents::nodes_rise;
+use contents::well_formed;
 use model::Abi;
 use model::Params;
 use model::SectorSize;
@@ -23,10 +23,9 @@ use model::refusal::SHEET_SHAPE;
 ghost use mathlib.Core.Path.{_≡_};
 ghost use lib.ListN.{getD};
 ghost use Rattle.model.specs.NodeSheet.{entriesOf, sectorSizeOf, paramsOf, hasRequired, sheetOf};
-ghost use Rattle.nodes.specs.Contents.{Contents};
+ghost use Rattle.contents.specs.Contents.{Contents};
 
 mod bodies;
-mod contents;
 mod text;
 
 fn sector_size(v: u64) -> SectorSize

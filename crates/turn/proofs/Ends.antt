@@ -8,11 +8,12 @@ use lib.ListN.{length}
 use borrow.Author.Tests.{lt-ltb, eq-eqb, ne-eqb}
 use Rattle.wire.specs.Part.{setPart}
 use Rattle.wire.proofs.Part.{part-setPart}
-use Rattle.model.specs.Answers.{extentsAt, extentsLength, extentsIn}
+use Rattle.model.specs.Answers.{extentsAt, extentsIn}
 use Rattle.model.specs.Backend.{viewOf, next}
 use Rattle.model.specs.Buffers.{ports, ringsLength, grantsLength}
 use Rattle.model.specs.Calls.{Turn, TurnEffect}
 use Rattle.model.specs.Deeds.{turnDeeds}
+use Rattle.model.specs.Plan.{planWords}
 use Rattle.model.specs.Port.{View, isOpen, isWork}
 use Rattle.model.specs.Ring.{Request}
 use Rattle.model.specs.Rules.{dueTurn, effectDue}
@@ -98,12 +99,12 @@ module _ (m rings grants words : List ℕ) where
 -- ---- the extents in the middle of the answer
 
 module _ (m rings grants answer pages left : List ℕ) where
-  pub within : (r : Turned) (ys : List ℕ) → length answer ≡ 64 → length ys ≡ extentsLength
+  pub within : (r : Turned) (ys : List ℕ) → length answer ≡ 64 → length ys ≡ planWords
       → Promised m (Turn rings grants (extentsIn answer)) (record { rings = pages; words = ys; answer = r }) left
-      → TurnPromised m rings grants answer r pages (setPart extentsLength answer extentsAt ys) left
+      → TurnPromised m rings grants answer r pages (setPart planWords answer extentsAt ys) left
   within r ys h l p =
-      let e : extentsIn (setPart extentsLength answer extentsAt ys) ≡ ys = part-setPart extentsLength answer extentsAt ys (omega arith) l in
+      let e : extentsIn (setPart planWords answer extentsAt ys) ≡ ys = part-setPart planWords answer extentsAt ys (omega arith) l in
       record {
         promised = subst (λ (z : List ℕ). Promised m (Turn rings grants (extentsIn answer)) (record { rings = pages; words = z; answer = r }) left) (sym e) p;
-        around = ap (setPart extentsLength answer extentsAt) (sym e);
+        around = ap (setPart planWords answer extentsAt) (sym e);
       }

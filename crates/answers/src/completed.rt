@@ -1,0 +1,42 @@
+// A completion's answer.
+use crate::values::magnitude;
+use crate::values::seen;
+use crate::values::yes_no;
+use model::Completed;
+use model::PortId;
+use model::Status;
+ghost use mathlib.Core.Path.{_≡_};
+ghost use Rattle.model.specs.Answers.{completedNumber, completedWords, doneAnswer, doneLeft};
+ghost use Rattle.model.specs.declared.Completed.{Completed as Done};
+
+// The words of the answer, and which is which. The last is 0.
+pub const DONE_WORDS: usize = 4;
+
+const DONE_PORT: usize = 0;
+
+const DONE_STATUS: usize = 1;
+
+const DONE_NOTIFY: usize = 2;
+
+fn put_done(answer: &mut [u64; DONE_WORDS], port: PortId, status: Status, notify: bool)
+    ensures { λ _. ⌜ now (answer .exit) ≡ doneAnswer (completedWords (Done.Done port status notify)) ⌝ }
+{
+    seen(answer);
+    answer[DONE_PORT] = port.0 as u64;
+    answer[DONE_STATUS] = magnitude(status);
+    answer[DONE_NOTIFY] = yes_no(notify);
+    answer[3] = 0;
+}
+
+// The answer of a completion as words, and the number to return.
+pub fn put_completed(answer: &mut [u64; DONE_WORDS], completed: Completed) -> u32
+    ensures { λ n. ⌜ (n ≡ completedNumber completed) × (now (answer .exit) ≡ doneLeft completed (now (answer .entry))) ⌝ }
+{
+    match completed {
+        Completed::Refused(n) => n,
+        Completed::Done(port, status, notify) => {
+            put_done(answer, port, status, notify);
+            0
+        }
+    }
+}

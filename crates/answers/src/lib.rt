@@ -1,0 +1,9 @@
+// A call's answer as the words and the number that C reads, a file to an answer.
+mod completed;
+mod turned;
+mod values;
+
+pub use completed::DONE_WORDS;
+pub use completed::put_completed;
+pub use turned::put_turned;
+pub use values::number;
