@@ -5,13 +5,12 @@ use crate::values::yes_no;
 use model::Completed;
 use model::PortId;
 use model::Status;
+use model::buffer::DONE_WORDS;
 ghost use mathlib.Core.Path.{_≡_};
 ghost use Rattle.model.specs.Answers.{completedNumber, completedWords, doneAnswer, doneLeft};
 ghost use Rattle.model.specs.declared.Completed.{Completed as Done};
 
-// The words of the answer, and which is which. The last is 0.
-pub const DONE_WORDS: usize = 4;
-
+// Which word of the answer is which. The last is 0.
 const DONE_PORT: usize = 0;
 
 const DONE_STATUS: usize = 1;

@@ -3,7 +3,6 @@ mod completed;
 mod turned;
 mod values;
 
-pub use completed::DONE_WORDS;
 pub use completed::put_completed;
 pub use turned::put_turned;
 pub use values::number;

@@ -31,7 +31,7 @@ const COUNT: usize = 6;
 
 const SECURE: usize = 7;
 
-const EXTENTS: usize = 8;
+const EXTENT_COUNT: usize = 8;
 
 const REASON: usize = 9;
 
@@ -75,7 +75,7 @@ fn put_values(
     answer[START] = start;
     answer[COUNT] = count;
     answer[SECURE] = secure;
-    answer[EXTENTS] = extents;
+    answer[EXTENT_COUNT] = extents;
     answer[REASON] = reason;
     answer[STATUS] = status;
     answer[NOTIFY] = notify;

@@ -32,7 +32,7 @@ use Rattle.model.specs.declared.TagId.{TagId}
 use Rattle.model.specs.declared.Turned.{Turned}
 use Rattle.model.specs.declared.Verdict.{Verdict}
 use Rattle.model.proofs.Base.{by-cond}
-use Rattle.model.proofs.DueFacts.{Chosen, Started, Finished, OpenFacts, CloseFacts, TurnFacts, CompleteFacts, facts, names-one, waits-room}
+use Rattle.model.proofs.DueFacts.{chosen-lt, Started, Finished, OpenFacts, CloseFacts, TurnFacts, CompleteFacts, facts, names-one, waits-room}
 use Rattle.model.proofs.Page.{request-fits, slot-bytes}
 use Rattle.model.proofs.Ring.{fits}
 use Rattle.model.proofs.View.{view-consumed}
@@ -109,9 +109,6 @@ module _ (m : List ℕ) (x : Exact m) where
       one-deed Reply.Done (some-port m x (p .0) (f .0) closedPort (record { consumed = omega arith; produced = omega arith })) (λ z.
       let w : _≡_ {A = ℕ} 0 1 = cc in omega arith)
 
-  chosen-lt : (rings : List ℕ) (k : ℕ) → Chosen (viewOf (backendOf m)) rings k → k < ports
-  chosen-lt rings k f = omega (arith, f .place)
-
   -- a started request has room, so its tag is one that there is
   module _ (rings : List ℕ) (k t s : ℕ) (f : Started (viewOf (backendOf m)) rings k t s) where
     few : inFlightOf (backendOf m .port k .busy) < ringOf (backendOf m .port k .params) .size
@@ -152,21 +149,21 @@ module _ (m : List ℕ) (x : Exact m) where
   leaves-turn rings grants words pages filled (Turned.Overrun p) y f o =
       let k = p .0 in
       let q = backendOf m .port k in
-      let h = chosen-lt rings k f in
+      let h = chosen-lt f in
       one-deed (record { rings = pages; words = filled; answer = Turned.Overrun p })
       (pointed _ (some-port m x k h (brokenPort q) (record { consumed = backend-ranged m k .consumed; produced = backend-ranged m k .produced })) k) (λ z.
       let w : _≡_ {A = ℕ} 0 1 = cc in omega arith)
   leaves-turn rings grants words pages filled (Turned.Answered p i z b) y f o =
       let k = p .0 in
       let q = backendOf m .port k in
-      let h = chosen-lt rings k (f .choice) in
+      let h = chosen-lt (f .choice) in
       one-deed (record { rings = pages; words = filled; answer = Turned.Answered p i z b })
       (pointed _ (some-port m x k h (answeredPort q) (record { consumed = index-lt (q .consumed); produced = index-lt (q .produced) })) k) (λ e.
       let w : _≡_ {A = ℕ} 0 1 = cc in omega arith)
   leaves-turn rings grants words pages filled (Turned.Started p t s plan) y f o =
       let k = p .0 in
       let q = backendOf m .port k in
-      let h = chosen-lt rings k (f .choice) in
+      let h = chosen-lt (f .choice) in
       let pair = requestAt (viewOf (backendOf m)) rings k .pair in
       let x : Tag = record { pair = pair; serial = serialOf (s .0); expected = expectedOf plan } in
       let r : RangedTag x = record { operation = operation-fits rings k y; serial = serial-fits rings k (t .0) (s .0) f; expected = o } in

@@ -9,7 +9,7 @@ use model::State;
 use model::Tag;
 use model::TagId;
 use model::buffer::PORTS;
-use model::buffer::RINGS;
+use model::buffer::RINGS_BYTES;
 use model::layout::ring_size;
 use model::refusal::IS_CLOSED;
 use model::refusal::NO_PORT;
@@ -112,7 +112,7 @@ pub fn complete(
 ) -> Completed
     ensures { λ r. ⌜ Promised (now (memory .entry)) (Complete (now (rings .entry)) port tag serial result) (record { rings = now (rings .exit); answer = r }) (now (memory .exit)) ⌝ }
 {
-    if rings.len() != RINGS {
+    if rings.len() != RINGS_BYTES {
         return Completed::Refused(WRONG_LENGTH);
     }
     let k = port.0 as usize;

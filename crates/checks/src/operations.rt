@@ -2,7 +2,7 @@
 // it costs every turn some instructions.
 use model::layout::REQUEST_COUNT;
 use model::layout::REQUEST_OPERATION;
-use model::layout::SLOT;
+use model::layout::SLOT_BYTES;
 use model::limit::MOST_SEGMENTS;
 use model::operation::BARRIER;
 use model::operation::DISCARD;
@@ -19,7 +19,8 @@ ghost use mathlib.Core.Path.{_≡_};
 ghost use lib.Dec.{eqb, ltb, leb};
 ghost use lib.ListN.{getD};
 ghost use Rattle.model.specs.Checks.{maxSegments};
-ghost use Rattle.checks.specs.Operations.{requestIn, operationReason};
+ghost use Rattle.model.specs.Ring.{requestIn, requestOperationAt, discard};
+ghost use Rattle.checks.specs.Operations.{operationReason};
 
 // 24 where the disk may not be written; else the reason of the check after it.
 fn mode_reason(writable: bool, later: u32) -> u32
@@ -65,8 +66,8 @@ fn discard_amount(count: u64) -> u32
 }
 
 // 22 to 25 of a discard, or 0.
-fn discard_reason(params: model::Params, slot: &[u8; SLOT]) -> u32
-    requires { ⌜ getD (now slot) 0 0 ≡ 5 ⌝ }
+fn discard_reason(params: model::Params, slot: &[u8; SLOT_BYTES]) -> u32
+    requires { ⌜ getD (now slot) requestOperationAt 0 ≡ discard ⌝ }
     ensures { λ r. ⌜ r ≡ operationReason params (requestIn params (now (slot .entry))) ⌝ }
 {
     let abi = params.abi;
@@ -85,7 +86,7 @@ fn discard_reason(params: model::Params, slot: &[u8; SLOT]) -> u32
 }
 
 // The first of the checks 21 to 25 that the request fails, or 0. Each operation has its tests to itself, in number order.
-pub fn operation_reason(params: model::Params, slot: &[u8; SLOT]) -> u32
+pub fn operation_reason(params: model::Params, slot: &[u8; SLOT_BYTES]) -> u32
     ensures { λ r. ⌜ r ≡ operationReason params (requestIn params (now (slot .entry))) ⌝ }
 {
     let operation = slot[REQUEST_OPERATION];

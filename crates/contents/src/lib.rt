@@ -1,5 +1,5 @@
 // The table of contents of a sheet: whether refusal 11 or 12 is due, and what it says of each entry.
-use model::node::PAGE_ORDER;
+use model::node::RING_PAGE_ORDER;
 ghost use mathlib.Core.Path.{_≡_};
 ghost use Prim.Native.Nat.{_+_, _*_, _<_, _≤_};
 ghost use lib.ListN.{length, getD};
@@ -16,7 +16,7 @@ const RESERVED: usize = 1;
 
 const LENGTH: usize = 2;
 
-const MOST_ENTRIES: usize = PAGE_ORDER;
+const MOST_ENTRIES: usize = RING_PAGE_ORDER;
 
 // How many entries the sheet says it has.
 pub fn entry_count(sheet: &[u8]) -> usize
@@ -112,7 +112,7 @@ pub fn nodes_rise(sheet: &[u8]) -> bool
         if node <= before {
             return false;
         }
-        if node > PAGE_ORDER {
+        if node > RING_PAGE_ORDER {
             return false;
         }
         before = node;

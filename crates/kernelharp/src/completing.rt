@@ -1,10 +1,10 @@
 // kh_complete
-use answers::DONE_WORDS;
 use answers::put_completed;
 use memory::WORDS;
 use model::PortId;
 use model::Serial;
 use model::TagId;
+use model::buffer::DONE_WORDS;
 ghost use Rattle.kernelharp.specs.Run.{khComplete, Promise};
 
 #[no_mangle]

@@ -1,6 +1,7 @@
 -- Where the words of backend memory stand (rule 14.1): one field to a word, port after port, each port's own words before its tags', the pointer last.
 use Prim.Native.Nat.{ℕ, _+_, _*_}
 use Rattle.model.specs.Buffers.{ports}
+use Rattle.model.specs.Ring.{ringSlots}
 
 -- the words of a port beside its tags, of a tag, and the tags of a port (rule 4.7)
 abbrev pub portWords : ℕ
@@ -10,7 +11,7 @@ abbrev pub tagWords : ℕ
 tagWords = 4
 
 abbrev pub tags : ℕ
-tags = 32
+tags = ringSlots
 
 -- from one port's first word to the next port's
 abbrev pub stride : ℕ

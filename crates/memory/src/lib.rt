@@ -8,7 +8,7 @@
 // Reading is total: no content of the words is wrong. Callers see the backend that the words say (specs/Backend.antt), and no word.
 use crate::words::known;
 use model::buffer::PORTS;
-use model::layout::RING_SLOTS;
+use model::layout::SLOTS;
 ghost use mathlib.Core.Path.{_≡_};
 ghost use Prim.Native.Nat.{_<_};
 ghost use Rattle.model.specs.Buffers.{ports};
@@ -39,7 +39,7 @@ pub const PORT_WORDS: usize = 12;
 pub const TAG_WORDS: usize = 4;
 
 // A tag to each slot of the ring.
-pub const TAGS: usize = RING_SLOTS as usize;
+pub const TAGS: usize = SLOTS as usize;
 
 pub const STRIDE: usize = PORT_WORDS + TAG_WORDS * TAGS;
 

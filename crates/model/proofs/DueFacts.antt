@@ -41,6 +41,10 @@ pub record Chosen (v : View) (rings : List ℕ) (k : ℕ) : Type 0 where
   pub works : hasWork v rings k ≡ true
   pub before : (i : ℕ) → i < offset → hasWork v rings (lookedAt v i) ≡ false
 
+-- whom a turn serves is a port
+pub chosen-lt : {v : View} {rings : List ℕ} {k : ℕ} → Chosen v rings k → k < ports
+chosen-lt f = omega (arith, f .place)
+
 -- a request of port k was started
 pub record Started (v : View) (rings : List ℕ) (k t s : ℕ) : Type 0 where
   pub choice : Chosen v rings k

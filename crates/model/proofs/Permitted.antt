@@ -30,7 +30,7 @@ use Rattle.model.specs.declared.Turned.{Turned}
 use Rattle.model.proofs.Base.{clash, and-left, least-is, least-some}
 use Rattle.model.proofs.Ring.{Fits, fits, slotAt-modulus, slotOf-modulus}
 use Rattle.model.proofs.Page.{length-pageOf, pageOf-setPage, FitsPair, request-fits, slot-bytes, length-responded, pair-responded, status-responded}
-use Rattle.model.proofs.DueFacts.{Chosen, Started, AnsweredNow, Finished, OpenFacts, CloseFacts, TurnFacts, CompleteFacts, Facts, FactsOf, facts-due, waits-room, names-one}
+use Rattle.model.proofs.DueFacts.{Chosen, chosen-lt, Started, AnsweredNow, Finished, OpenFacts, CloseFacts, TurnFacts, CompleteFacts, Facts, FactsOf, facts-due, waits-room, names-one}
 use Rattle.model.proofs.Ledger.{held-count, held-fits}
 use Rattle.model.proofs.Conservation.{Sound, Carries, MayClose, MayStart, MayAnswer, MayFinish, MayAll, sound-none, sound-posts}
 
@@ -122,9 +122,6 @@ module _ (k : ℕ) (h : List Event) (o : Sound (book k h)) where
   unfolding hasWork
   chosen-open rings f = rw view-state at (open-not-closed (viewAt h .state k) (and-left _ _ (f .works)))
 
-  chosen-lt : (rings : List ℕ) (j : ℕ) → Chosen (viewAt h) rings j → j < ports
-  chosen-lt rings j f = omega (arith, f .place)
-
   may-start : (rings : List ℕ) (t s : ℕ) → IsBytes rings → Started (viewAt h) rings k t s → MayStart k rings t (book k h)
   may-start rings t s y f =
       let opened = chosen-open rings (f .choice) in
@@ -139,7 +136,7 @@ module _ (k : ℕ) (h : List Event) (o : Sound (book k h)) where
       record {
         opened = opened;
         narrow = asked-fits rings y;
-        reads = reads-response rings left _ z opened (f .choice .sized) (chosen-lt rings k (f .choice)) (asked-fits rings y) (f .written ∙ ap (λ (p : Pair). respondedAt (viewAt h) rings k p z) q);
+        reads = reads-response rings left _ z opened (f .choice .sized) (chosen-lt (f .choice)) (asked-fits rings y) (f .written ∙ ap (λ (p : Pair). respondedAt (viewAt h) rings k p z) q);
       }
 
   may-finish : (rings left : List ℕ) (t : TagId) (s : Serial) (z : Status) → Finished (viewAt h) rings left k t s z → MayFinish k left (t .0) (s .0) z (book k h)
@@ -173,14 +170,14 @@ module _ (k : ℕ) (h : List Event) (o : Sound (book k h)) where
   may-turn rings left (Turned.Refused n) y f = tt
   may-turn rings left Turned.Idle y f = tt
   may-turn rings left (Turned.Overrun p) y f =
-      (chosen-lt rings _ f, λ q. chosen-open rings (subst (λ (j : ℕ). Chosen (viewAt h) rings j) (sym q) f), tt)
+      (chosen-lt f, λ q. chosen-open rings (subst (λ (j : ℕ). Chosen (viewAt h) rings j) (sym q) f), tt)
   may-turn rings left (Turned.Started p t s plan) y f = (
-    chosen-lt rings _ (f .choice),
+    chosen-lt (f .choice),
     λ q. subst (λ (j : ℕ). MayStart j rings (t .0) (book k h)) q (may-start rings (t .0) (s .0) y (subst (λ (j : ℕ). Started (viewAt h) rings j (t .0) (s .0)) (sym q) f)),
     tt,
   )
   may-turn rings left (Turned.Answered p n z x) y f = (
-    chosen-lt rings _ (f .choice),
+    chosen-lt (f .choice),
     λ q. subst (λ (j : ℕ). MayAnswer j rings left z (book k h)) q (may-answer rings left n z y (subst (λ (j : ℕ). AnsweredNow (viewAt h) rings left j n z) (sym q) f)),
     tt,
   )

@@ -1,7 +1,7 @@
 -- Each refusal of a call that its sheet does not settle (section 7), and when a response is told (rule 6.5), computed: no statement about histories sees
 -- which number a refusal has. Sheets have theirs beside them. Assumes nothing.
 use mathlib.Core.Path.{_≡_, refl}
-use mathlib.Core.Bool.{Bool, true, false}
+use mathlib.Core.Bool.{true, false}
 use mathlib.Core.List.{List, [], _∷_, map}
 use Prim.Native.Nat.{ℕ}
 use lib.IntN.{pos}
@@ -11,12 +11,12 @@ use Rattle.wire.specs.Part.{part}
 use Rattle.model.specs.Base.{tally}
 use Rattle.model.specs.Buffers.{ringsLength, grantsLength, pageOf}
 use Rattle.model.specs.Ring.{ringFor, rspEvent}
-use Rattle.model.specs.Port.{View, closedPort, openPort, zeroParams, zeroTag, isBusy, inFlightOf}
-use Rattle.model.specs.Calls.{Call, Open, Close, Turn, Complete, Effect}
+use Rattle.model.specs.Port.{View, openPort, zeroParams, isBusy, inFlightOf}
+use Rattle.model.specs.Calls.{Call, Open, Close, Turn, Complete}
 use Rattle.model.specs.Turn.{portId, tagId, serialOf, notifies}
 use Rattle.model.specs.Rules.{dueOpen, dueClose, dueTurn, namesNone, refusedCompletion, dueComplete, effectDue}
 use Rattle.model.specs.Backend.{emptyBackend, viewOf, withPort, startedPort}
-use Rattle.model.specs.Answers.{replyNumber, turnedNumber, completedNumber}
+use Rattle.model.specs.Answers.{refusal}
 
 -- port 2 has one request in flight, with tag 0 and serial 0; the others are closed
 busy : View
@@ -27,12 +27,6 @@ rings = replicate ringsLength 0
 
 grants : List ℕ
 grants = replicate grantsLength 0
-
-abbrev number : (c : Call) → Effect c → ℕ
-number (Open p s) e = replyNumber e
-number (Close p) e = replyNumber e
-number (Turn r g w) e = turnedNumber (e .answer)
-number (Complete r p t s x) e = completedNumber (e .answer)
 
 -- a call, and the number that it is refused with
 record Refused : Type 0 where
@@ -65,7 +59,7 @@ abbrev header : ℕ → List ℕ
 header event = 0 ∷ 0 ∷ 0 ∷ 0 ∷ 0 ∷ 0 ∷ 0 ∷ 0 ∷ 0 ∷ 0 ∷ 0 ∷ 0 ∷ event ∷ 0 ∷ 0 ∷ 0 ∷ []
 
 record Computed : Type 0 where
-  numbers : map (λ (r : Refused). number (r .call) (effectDue busy (r .call))) calls ≡ map (λ (r : Refused). r .number) calls
+  numbers : map (λ (r : Refused). refusal (r .call) (effectDue busy (r .call))) calls ≡ map (λ (r : Refused). r .number) calls
   -- the first response is told where rsp_event is 1, and only there
   told : notifies busy (header 1) 0 ≡ true
   untold : notifies busy (header 0) 0 ≡ false

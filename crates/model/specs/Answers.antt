@@ -73,13 +73,15 @@ turnAnswer values extents = values ++ replicate 4 0 ++ extents ++ replicate 4 0
 abbrev pub doneAnswer : List ℕ → List ℕ
 doneAnswer values = values ++ 0 ∷ []
 
--- the words lent for an answer, after the call: written over, but left by a refusal, which has no values (rule 14.6)
-abbrev pub answerLeft : (values lent written : List ℕ) → List ℕ
-answerLeft [] lent written = lent
-answerLeft (v ∷ values) lent written = written
-
+-- The words lent for a turn's answer, after it (rules 14.6 and 14.7): a refusal leaves them, and no refusal has the number 0.
 abbrev pub turnLeft : Turned → (lent extents : List ℕ) → List ℕ
-turnLeft r lent extents = answerLeft (turnedWords r) lent (turnAnswer (turnedWords r) extents)
+turnLeft (Turned.Refused n) lent extents = lent
+turnLeft Turned.Idle lent extents = turnAnswer (turnedWords Turned.Idle) extents
+turnLeft (Turned.Overrun p) lent extents = turnAnswer (turnedWords (Turned.Overrun p)) extents
+turnLeft (Turned.Started p t s plan) lent extents = turnAnswer (turnedWords (Turned.Started p t s plan)) extents
+turnLeft (Turned.Answered p n z y) lent extents = turnAnswer (turnedWords (Turned.Answered p n z y)) extents
 
+-- and those lent for a completion's (rules 14.6 and 14.8)
 abbrev pub doneLeft : Completed → (lent : List ℕ) → List ℕ
-doneLeft r lent = answerLeft (completedWords r) lent (doneAnswer (completedWords r))
+doneLeft (Completed.Refused n) lent = lent
+doneLeft (Completed.Done p z y) lent = doneAnswer (completedWords (Completed.Done p z y))

@@ -64,9 +64,13 @@ pub record Ring : Type 0 where
   pub layout : Layout
   pub size : ℕ
 
+-- the slots of a ring in one page (rule 2.3)
+abbrev pub ringSlots : ℕ
+ringSlots = 32
+
 -- the ring of a layout, in one page (rules 1.16 and 2.3)
 unfoldable pub ringFor : Abi → Ring
-ringFor a = record { layout = layoutOf a; size = 32 }
+ringFor a = record { layout = layoutOf a; size = ringSlots }
 
 -- the ring that a node sheet asks for (rule 3.5)
 abbrev pub ringOf : Params → Ring
@@ -130,6 +134,10 @@ requestOf l slot = record {
   segments = segmentsOf (getD slot requestCountAt 0) l slot 0;
   sectors = load 8 slot (l .segmentsAt);
 }
+
+-- the request that a slot's bytes spell in a port's layout (rules 2.5 and 2.8)
+abbrev pub requestIn : Params → List ℕ → Request
+requestIn p slot = requestOf (layoutOf (p .abi)) slot
 
 -- a status as a number (rule 2.12); `negsuc n` is -(n + 1)
 abbrev pub statusNumber : Status → ℤ

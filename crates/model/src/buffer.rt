@@ -1,23 +1,26 @@
 // The numbers of the buffers that the host lends.
-use crate::limit::EXTENT_WORDS;
 use crate::limit::FRAMES;
+use crate::limit::PLAN_WORDS;
 
 // Ports of a backend, one guest disk each (rule 1.1).
 pub const PORTS: usize = 8;
 
 // Each port's share of the ring buffer, and the whole of it (rule 1.3).
-pub const PAGE: usize = 4096;
+pub const RING_BYTES: usize = 4096;
 
-pub const RINGS: usize = PORTS * PAGE;
+pub const RINGS_BYTES: usize = PORTS * RING_BYTES;
 
 // Each port's share of the grant buffer, a byte to a frame, and the whole of it (rule 1.4).
-pub const GRANT_SHARE: usize = FRAMES as usize;
+pub const PORT_GRANTS: usize = FRAMES as usize;
 
-pub const GRANTS: usize = PORTS * GRANT_SHARE;
+pub const GRANTS_BYTES: usize = PORTS * PORT_GRANTS;
 
 // A turn's answer: all words, and where those of the extents stand among them (rule 14.7).
 pub const TURN_WORDS: usize = 64;
 
-pub const EXTENTS_FROM: usize = 16;
+pub const TURN_EXTENTS: usize = 16;
 
-pub const EXTENTS_END: usize = EXTENTS_FROM + EXTENT_WORDS;
+pub const TURN_EXTENTS_END: usize = TURN_EXTENTS + PLAN_WORDS;
+
+// The words of a completion's answer (rule 14.8).
+pub const DONE_WORDS: usize = 4;

@@ -1,4 +1,4 @@
-// The grant bytes that allow something.
-pub const MAY_READ: u8 = 1;
+// The grant bytes that allow something: the backend may read the frame, or read and write it.
+pub const READ: u8 = 1;
 
-pub const MAY_WRITE: u8 = 2;
+pub const READ_WRITE: u8 = 2;

@@ -7,7 +7,7 @@ ghost use Rattle.model.specs.Port.{busyBits};
 ghost use Rattle.model.specs.Ring.{layoutOf, ringFor, segmentSize, slotBytes};
 
 // The bytes of the header, and where its four fields stand, four bytes each (rule 2.2).
-pub const HEADER: usize = 64;
+pub const HEADER_BYTES: usize = 64;
 
 pub const REQ_PROD: usize = 0;
 
@@ -18,10 +18,10 @@ pub const RSP_PROD: usize = 8;
 pub const RSP_EVENT: usize = 12;
 
 // The bytes of the largest slot: no request is longer than that (rule 2.3).
-pub const SLOT: usize = 112;
+pub const SLOT_BYTES: usize = 112;
 
 // The slots of a ring of one page (rule 2.3).
-pub const RING_SLOTS: u32 = 32;
+pub const SLOTS: u32 = 32;
 
 // Where a request of any layout keeps its operation, and its segment count or flag (rules 2.5 and 2.8).
 pub const REQUEST_OPERATION: usize = 0;
@@ -29,7 +29,7 @@ pub const REQUEST_OPERATION: usize = 0;
 pub const REQUEST_COUNT: usize = 1;
 
 // The bytes of a segment, which begins with its frame, and where its first and last sector stand in it (rule 2.6).
-pub const SEGMENT: usize = 8;
+pub const SEGMENT_BYTES: usize = 8;
 
 pub const SEGMENT_FIRST: usize = 4;
 
@@ -46,7 +46,7 @@ pub const RESPONSE_PADDING: usize = 12;
 pub fn ring_size(abi: Abi) -> u32
     ensures { λ r. ⌜ (r ≡ ringFor abi .size) × (0 < r) × (r ≤ busyBits) ⌝ }
 {
-    RING_SLOTS
+    SLOTS
 }
 
 // The bytes of a slot.
@@ -54,7 +54,7 @@ pub fn slot_size(abi: Abi) -> usize
     ensures { λ r. ⌜ (r ≡ layoutOf abi .slotSize) × (r ≤ slotBytes) ⌝ }
 {
     match abi {
-        Abi::Bits64 => SLOT,
+        Abi::Bits64 => SLOT_BYTES,
     }
 }
 
@@ -90,5 +90,5 @@ pub fn segment_at(abi: Abi, i: usize) -> usize
     requires { ⌜ i < maxSegments ⌝ }
     ensures { λ r. ⌜ (r ≡ layoutOf abi .segmentsAt + segmentSize * i) × (r + segmentSize ≤ slotBytes) ⌝ }
 {
-    segments_at(abi) + SEGMENT * i
+    segments_at(abi) + SEGMENT_BYTES * i
 }

@@ -3,12 +3,12 @@ pub const MOST_SEGMENTS: u8 = 11;
 
 pub const LAST_IN_FRAME: u8 = 7;
 
-// Beside a plan there is a place for each segment's extent, of EXTENT words.
-pub const SEGMENTS: usize = MOST_SEGMENTS as usize;
+// Beside a plan there is a place for each segment's extent, of EXTENT_WORDS words.
+pub const EXTENTS: usize = MOST_SEGMENTS as usize;
 
-pub const EXTENT: usize = 4;
+pub const EXTENT_WORDS: usize = 4;
 
-pub const EXTENT_WORDS: usize = EXTENT * SEGMENTS;
+pub const PLAN_WORDS: usize = EXTENT_WORDS * EXTENTS;
 
 // The frames of a port that have a grant byte.
 pub const FRAMES: u32 = 1024;

@@ -7,7 +7,7 @@ pub const FLUSH: usize = 3;
 
 pub const DISCARD: usize = 4;
 
-pub const SECURE: usize = 5;
+pub const DISCARD_SECURE: usize = 5;
 
 pub const SECTOR_SIZE: usize = 6;
 
@@ -15,7 +15,7 @@ pub const SECTORS: usize = 7;
 
 pub const PROTOCOL: usize = 8;
 
-pub const PAGE_ORDER: usize = 9;
+pub const RING_PAGE_ORDER: usize = 9;
 
 // The places of that array. There is no node 0.
-pub const PLACES: usize = PAGE_ORDER + 1;
+pub const PLACES: usize = RING_PAGE_ORDER + 1;

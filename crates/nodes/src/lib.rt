@@ -11,12 +11,12 @@ use model::SectorSize;
 use model::Sheet;
 use model::node::BARRIER;
 use model::node::DISCARD;
+use model::node::DISCARD_SECURE;
 use model::node::FLUSH;
 use model::node::MODE;
 use model::node::PLACES;
 use model::node::SECTOR_SIZE;
 use model::node::SECTORS;
-use model::node::SECURE;
 use model::refusal::SHEET_MISSING;
 use model::refusal::SHEET_NODES;
 use model::refusal::SHEET_SHAPE;
@@ -52,7 +52,7 @@ fn params_of(values: [u64; PLACES]) -> Params
         barrier: values[BARRIER] == 1,
         flush: values[FLUSH] == 1,
         discard: values[DISCARD] == 1,
-        secure: values[SECURE] == 1,
+        secure: values[DISCARD_SECURE] == 1,
         sector: sector_size(values[SECTOR_SIZE]),
         sectors: values[SECTORS],
         abi: Abi::Bits64,

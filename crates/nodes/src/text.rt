@@ -2,11 +2,11 @@
 use decimal::read_number;
 use model::Body;
 use model::Number;
+use model::node::DISCARD_SECURE;
 use model::node::MODE;
 use model::node::PROTOCOL;
 use model::node::SECTOR_SIZE;
 use model::node::SECTORS;
-use model::node::SECURE;
 use model::refusal::SHEET_NUMBER;
 use model::refusal::SHEET_TEXT;
 ghost use mathlib.Core.Path.{_≡_};
@@ -104,7 +104,7 @@ pub fn read_body(node: usize, text: &[u8]) -> Body
     if node == MODE {
         return choice_body(text, b"r", b"w");
     }
-    if node <= SECURE {
+    if node <= DISCARD_SECURE {
         return choice_body(text, b"0", b"1");
     }
     if node == PROTOCOL {

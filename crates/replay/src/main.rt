@@ -25,30 +25,30 @@ use memory::WORDS;
 use model::PortId;
 use model::Serial;
 use model::TagId;
-use model::buffer::GRANT_SHARE;
-use model::buffer::GRANTS;
-use model::buffer::PAGE;
+use model::buffer::GRANTS_BYTES;
+use model::buffer::PORT_GRANTS;
 use model::buffer::PORTS;
-use model::buffer::RINGS;
+use model::buffer::RING_BYTES;
+use model::buffer::RINGS_BYTES;
 use model::buffer::TURN_WORDS;
 
 // The buffers' numbers, as a line has them.
 const PORT_COUNT: u64 = PORTS as u64;
 
-const PAGE_BYTES: u64 = PAGE as u64;
+const RING_PLACES: u64 = RING_BYTES as u64;
 
-const RINGS_BYTES: u64 = RINGS as u64;
+const LENT_RINGS: u64 = RINGS_BYTES as u64;
 
-const GRANT_BYTES: u64 = GRANT_SHARE as u64;
+const GRANT_PLACES: u64 = PORT_GRANTS as u64;
 
-const GRANTS_BYTES: u64 = GRANTS as u64;
+const LENT_GRANTS: u64 = GRANTS_BYTES as u64;
 
 // The bytes from a place on, as far as the rings go.
-fn put_bytes(rings: &mut [u8; RINGS], from: usize, bytes: &[u8]) {
+fn put_bytes(rings: &mut [u8; RINGS_BYTES], from: usize, bytes: &[u8]) {
     let mut at = from;
     let mut i = 0;
     while i < bytes.len() {
-        if at < RINGS {
+        if at < RINGS_BYTES {
             rings[at] = bytes[i];
             at += 1;
         }
@@ -57,17 +57,22 @@ fn put_bytes(rings: &mut [u8; RINGS], from: usize, bytes: &[u8]) {
 }
 
 // What a guest writes counts as shown: only a call's own changes are told.
-fn guest(rings: &mut [u8; RINGS], shown: &mut [u8; RINGS], c: &[u64; NUMBERS], bytes: &[u8]) {
+fn guest(
+    rings: &mut [u8; RINGS_BYTES],
+    shown: &mut [u8; RINGS_BYTES],
+    c: &[u64; NUMBERS],
+    bytes: &[u8],
+) {
     if bytes.len() < 2 {
         return;
     }
-    let at = (c[0] % PORT_COUNT * PAGE_BYTES + c[1] % PAGE_BYTES) as usize;
+    let at = (c[0] % PORT_COUNT * RING_PLACES + c[1] % RING_PLACES) as usize;
     put_bytes(rings, at, &bytes[2..]);
     put_bytes(shown, at, &bytes[2..]);
 }
 
-fn grant(grants: &mut [u8; GRANTS], c: &[u64; NUMBERS]) {
-    let at = (c[0] % PORT_COUNT * GRANT_BYTES + c[1] % GRANT_BYTES) as usize;
+fn grant(grants: &mut [u8; GRANTS_BYTES], c: &[u64; NUMBERS]) {
+    let at = (c[0] % PORT_COUNT * GRANT_PLACES + c[1] % GRANT_PLACES) as usize;
     grants[at] = (c[2] % 256) as u8;
 }
 
@@ -116,8 +121,8 @@ fn complete(memory: &mut [u64; WORDS], rings: &mut [u8], r: u64, names: [u64; 3]
 // One of the four calls.
 fn call(
     memory: &mut [u64; WORDS],
-    rings: &mut [u8; RINGS],
-    grants: &[u8; GRANTS],
+    rings: &mut [u8; RINGS_BYTES],
+    grants: &[u8; GRANTS_BYTES],
     letter: u8,
     c: &[u64; NUMBERS],
     negative: bool,
@@ -126,7 +131,7 @@ fn call(
         close(memory, c);
     }
     if letter == b't' {
-        take_turn(memory, rings, grants, RINGS_BYTES, GRANTS_BYTES);
+        take_turn(memory, rings, grants, LENT_RINGS, LENT_GRANTS);
     }
     if letter == b'T' {
         take_turn(memory, rings, grants, c[0], c[1]);
@@ -135,7 +140,7 @@ fn call(
         complete(
             memory,
             rings,
-            RINGS_BYTES,
+            LENT_RINGS,
             [c[0], c[1], c[2]],
             input::signed(c[3], negative),
         );
@@ -154,9 +159,9 @@ fn call(
 // A line that is no comment. Only a result can be negative, so a minus sign anywhere is its own.
 fn run_line(
     memory: &mut [u64; WORDS],
-    rings: &mut [u8; RINGS],
-    shown: &mut [u8; RINGS],
-    grants: &mut [u8; GRANTS],
+    rings: &mut [u8; RINGS_BYTES],
+    shown: &mut [u8; RINGS_BYTES],
+    grants: &mut [u8; GRANTS_BYTES],
     line: &[u8],
     letter: u8,
 ) {
@@ -190,9 +195,9 @@ fn run_line(
 // A line of the input. An empty one says nothing.
 fn read_line(
     memory: &mut [u64; WORDS],
-    rings: &mut [u8; RINGS],
-    shown: &mut [u8; RINGS],
-    grants: &mut [u8; GRANTS],
+    rings: &mut [u8; RINGS_BYTES],
+    shown: &mut [u8; RINGS_BYTES],
+    grants: &mut [u8; GRANTS_BYTES],
     line: &[u8],
 ) {
     if line.len() == 0 {
@@ -210,9 +215,9 @@ fn read_line(
 // Every line of the input, from the empty backend.
 fn run(text: &[u8]) {
     let mut memory = [0u64; WORDS];
-    let mut rings = [0u8; RINGS];
-    let mut shown = [0u8; RINGS];
-    let mut grants = [0u8; GRANTS];
+    let mut rings = [0u8; RINGS_BYTES];
+    let mut shown = [0u8; RINGS_BYTES];
+    let mut grants = [0u8; GRANTS_BYTES];
     let mut at = 0;
     while at < text.len() {
         let end = input::find(text, at, b'\n');

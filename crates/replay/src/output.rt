@@ -8,11 +8,11 @@ use model::Serial;
 use model::Status;
 use model::TagId;
 use model::Turned;
-use model::buffer::EXTENTS_FROM;
-use model::buffer::RINGS;
+use model::buffer::RINGS_BYTES;
+use model::buffer::TURN_EXTENTS;
 use model::buffer::TURN_WORDS;
-use model::limit::EXTENT;
 use model::limit::EXTENT_WORDS;
+use model::limit::PLAN_WORDS;
 
 pub fn text(s: &[u8]) {
     io::write_all(STDOUT_FILENO, s);
@@ -46,12 +46,12 @@ fn refused(n: u32) {
 // The words of n extents, and those of unused places where one is not zero.
 fn extents(answer: &[u64; TURN_WORDS], n: u32) {
     let mut i: usize = 0;
-    while i < EXTENT_WORDS {
-        if i < EXTENT * (n as usize) || answer[EXTENTS_FROM + i] != 0 {
-            if i % EXTENT == 0 {
+    while i < PLAN_WORDS {
+        if i < EXTENT_WORDS * (n as usize) || answer[TURN_EXTENTS + i] != 0 {
+            if i % EXTENT_WORDS == 0 {
                 text(b" |");
             }
-            word(answer[EXTENTS_FROM + i]);
+            word(answer[TURN_EXTENTS + i]);
         }
         i += 1;
     }
@@ -144,9 +144,9 @@ fn byte(place: usize, b: u8) {
 }
 
 // Each ring byte that differs from what was shown last; from then on it counts as shown.
-pub fn changed(shown: &mut [u8; RINGS], rings: &[u8; RINGS]) {
+pub fn changed(shown: &mut [u8; RINGS_BYTES], rings: &[u8; RINGS_BYTES]) {
     let mut i: usize = 0;
-    while i < RINGS {
+    while i < RINGS_BYTES {
         let b = rings[i];
         if shown[i] != b {
             byte(i, b);

@@ -7,7 +7,7 @@ use Prim.Native.Nat.{ℕ, _^_, _<_, _≤_}
 use native.Mathlib.Decide.{ℕ-discrete}
 use native.Mathlib.Omega.{arith}
 use lib.ListN.{length}
-use Rattle.model.specs.Ring.{layoutOf, requestOf}
+use Rattle.model.specs.Ring.{layoutOf, requestOf, requestIn}
 use Rattle.model.specs.Checks.{movesNothing, totalSectors, countOf, unknownOperation, wrongAmount, wrongSegment, operationChecks, segmentChecks, checks}
 use Rattle.model.specs.Complete.{expectedOf}
 use Rattle.model.specs.Plan.{planOf, verdictOf}
@@ -15,7 +15,6 @@ use Rattle.model.specs.declared.Params.{Params}
 use Rattle.model.specs.declared.Plan.{Plan}
 use Rattle.model.specs.declared.Verdict.{Verdict}
 use Rattle.segments.proofs.Slot.{length-segments, within-total}
-use Rattle.checks.specs.Operations.{requestIn}
 use Rattle.checks.proofs.Steps.{none-fails, all-passed}
 use Rattle.request.proofs.Verdict.{few-segments}
 

@@ -10,7 +10,7 @@ use native.Mathlib.Omega.{arith}
 use lib.Dec.{eqb, ltb, leb}
 use lib.ListN.{length}
 use Rattle.model.specs.Base.{all}
-use Rattle.model.specs.Ring.{Request}
+use Rattle.model.specs.Ring.{Request, requestIn}
 use Rattle.model.specs.Checks.{asksSecure, isEmptyBarrier, movesNothing, totalSectors, countOf, isGranted, unknownOperation, wrongAmount, isWithinFrame, wrongSegment, notGranted, operationChecks, segmentChecks, diskChecks, firstFailed}
 use Rattle.model.specs.Plan.{extentsFrom, extentsOf, extentWords, planOf, decided, verdictOf, noWords, wordsBeside}
 use Rattle.model.specs.declared.Checked.{Checked}
@@ -21,8 +21,7 @@ use Rattle.model.specs.declared.Verdict.{Verdict}
 use Rattle.model.proofs.Base.{clash}
 use Rattle.segments.specs.Segments.{passes}
 use Rattle.segments.proofs.Pass.{passes-each, passes-within, passes-granted}
-use Rattle.segments.proofs.Words.{length-extents}
-use Rattle.checks.specs.Operations.{requestIn}
+use Rattle.extents.proofs.Words.{length-extents}
 use Rattle.checks.proofs.OperationReasons.{is-unknown}
 use Rattle.checks.proofs.Steps.{none-fails, by-steps, andThen}
 use Rattle.request.specs.Judge.{Judged, emptyStart, discardStart, dataStart}

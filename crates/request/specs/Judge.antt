@@ -6,7 +6,7 @@ use Prim.Native.Nat.{ℕ}
 use Rattle.model.specs.Plan.{verdictOf, wordsBeside}
 use Rattle.model.specs.declared.Params.{Params}
 use Rattle.model.specs.declared.Verdict.{Verdict}
-use Rattle.checks.specs.Operations.{requestIn}
+use Rattle.model.specs.Ring.{requestIn, discard}
 
 -- The verdict is the model's (rule 5.19), and beside it stand the words of its extents: all zero beside a refusal (rule 5.34).
 pub record Judged (p : Params) (grants slot : List ℕ) (v : Verdict) (words : List ℕ) : Type 0 where
@@ -23,4 +23,4 @@ dataStart operation start count extents = Verdict.Start (record { operation = op
 
 -- the plan of a discard (rules 5.23, 5.25 and 5.26)
 abbrev pub discardStart : ℕ → ℕ → Bool → Verdict
-discardStart start count secure = Verdict.Start (record { operation = 5; start = start; count = count; secure = secure; extents = 0 })
+discardStart start count secure = Verdict.Start (record { operation = discard; start = start; count = count; secure = secure; extents = 0 })

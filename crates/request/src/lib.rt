@@ -8,25 +8,24 @@ use model::Verdict;
 use model::layout;
 use model::layout::REQUEST_COUNT;
 use model::layout::REQUEST_OPERATION;
-use model::layout::SLOT;
+use model::layout::SLOT_BYTES;
 use model::operation::DISCARD;
 use model::reason::READ_ONLY;
 use segments::Counted;
-use segments::extents;
 ghost use mathlib.Core.Bool.{cond};
 ghost use mathlib.Core.Path.{_≡_};
 ghost use lib.Dec.{ltb};
 ghost use lib.ListN.{length, getD};
 ghost use Rattle.model.specs.Buffers.{grantShare};
 ghost use Rattle.model.specs.Plan.{planWords, noWords};
-ghost use Rattle.model.specs.Ring.{layoutOf, requestOf};
+ghost use Rattle.model.specs.Ring.{layoutOf, requestOf, requestIn, requestOperationAt, requestCountAt, discard};
 ghost use Rattle.model.specs.declared.Status.{Status as Due};
 ghost use Rattle.model.specs.declared.Verdict.{Verdict as Judgement};
-ghost use Rattle.checks.specs.Operations.{requestIn, operationReason};
+ghost use Rattle.checks.specs.Operations.{operationReason};
 ghost use Rattle.request.specs.Judge.{Judged, emptyStart, discardStart, dataStart};
 
 // What the guest tells this request apart by: its id and operation.
-pub fn pair_of(abi: model::Abi, slot: &[u8; SLOT]) -> model::Pair
+pub fn pair_of(abi: model::Abi, slot: &[u8; SLOT_BYTES]) -> model::Pair
     ensures { λ r. ⌜ r ≡ requestOf (layoutOf abi) (now (slot .entry)) .pair ⌝ }
 {
     let at = layout::id_at(abi);
@@ -41,7 +40,7 @@ fn refuse(reason: u32, status: Status, words: &mut [u64]) -> Verdict
     requires { ⌜ length (now words) ≡ planWords ⌝ }
     ensures { λ r. ⌜ (r ≡ Judgement.Refused reason status) × (now (words .exit) ≡ noWords) ⌝ }
 {
-    extents::clear_from(words, 0);
+    extents::no_extents(words);
     Verdict::Refused(reason, status)
 }
 
@@ -60,7 +59,7 @@ fn start_empty(operation: u8, words: &mut [u64]) -> Verdict
     requires { ⌜ length (now words) ≡ planWords ⌝ }
     ensures { λ r. ⌜ (r ≡ emptyStart operation) × (now (words .exit) ≡ noWords) ⌝ }
 {
-    extents::clear_from(words, 0);
+    extents::no_extents(words);
     Verdict::Start(Plan {
         operation: operation,
         start: 0,
@@ -103,8 +102,8 @@ fn start_data(operation: u8, start: u64, count: u64, extents: u32) -> Verdict
 }
 
 // A discard that passed the checks 21 to 25.
-fn discard(params: Params, slot: &[u8; SLOT], grants: &[u8], words: &mut [u64]) -> Verdict
-    requires { ⌜ (operationReason params (requestIn params (now slot)) ≡ 0) × (getD (now slot) 0 0 ≡ 5) × (length (now words) ≡ planWords) ⌝ }
+fn discard(params: Params, slot: &[u8; SLOT_BYTES], grants: &[u8], words: &mut [u64]) -> Verdict
+    requires { ⌜ (operationReason params (requestIn params (now slot)) ≡ 0) × (getD (now slot) requestOperationAt 0 ≡ discard) × (length (now words) ≡ planWords) ⌝ }
     ensures { λ r. ⌜ Judged params (now (grants .entry)) (now (slot .entry)) r (now (words .exit)) ⌝ }
 {
     let abi = params.abi;
@@ -118,7 +117,7 @@ fn discard(params: Params, slot: &[u8; SLOT], grants: &[u8], words: &mut [u64]) 
             return refuse(reason, status, words);
         }
         Checked::Passed => {
-            extents::clear_from(words, 0);
+            extents::no_extents(words);
             if slot[REQUEST_COUNT] % 2 == 1 {
                 return start_discard(start, count, true);
             }
@@ -128,8 +127,8 @@ fn discard(params: Params, slot: &[u8; SLOT], grants: &[u8], words: &mut [u64]) 
 }
 
 // A read, write or barrier with segments that passed the checks 21 to 25.
-fn data(params: Params, slot: &[u8; SLOT], grants: &[u8], words: &mut [u64]) -> Verdict
-    requires { ⌜ (length (now grants) ≡ grantShare) × (operationReason params (requestIn params (now slot)) ≡ 0) × (getD (now slot) 0 0 ≡ 5 → ⊥) × (getD (now slot) 1 0 ≡ 0 → ⊥) × (length (now words) ≡ planWords) ⌝ }
+fn data(params: Params, slot: &[u8; SLOT_BYTES], grants: &[u8], words: &mut [u64]) -> Verdict
+    requires { ⌜ (length (now grants) ≡ grantShare) × (operationReason params (requestIn params (now slot)) ≡ 0) × (getD (now slot) requestOperationAt 0 ≡ discard → ⊥) × (getD (now slot) requestCountAt 0 ≡ 0 → ⊥) × (length (now words) ≡ planWords) ⌝ }
     ensures { λ r. ⌜ Judged params (now (grants .entry)) (now (slot .entry)) r (now (words .exit)) ⌝ }
 {
     let operation = slot[REQUEST_OPERATION];
@@ -162,13 +161,13 @@ fn data(params: Params, slot: &[u8; SLOT], grants: &[u8], words: &mut [u64]) -> 
 }
 
 // The verdict on the request in a slot's copy, and in `words` its extents: four words to each, zero where there is none.
-pub fn judge(params: Params, slot: &[u8; SLOT], grants: &[u8], words: &mut [u64]) -> Verdict
+pub fn judge(params: Params, slot: &[u8; SLOT_BYTES], grants: &[u8], words: &mut [u64]) -> Verdict
     requires { ⌜ (length (now grants) ≡ grantShare) × (length (now words) ≡ planWords) ⌝ }
     ensures { λ r. ⌜ Judged params (now (grants .entry)) (now (slot .entry)) r (now (words .exit)) ⌝ }
 {
     let reason = checks::operation_reason(params, slot);
     if reason != 0 {
-        extents::clear_from(words, 0);
+        extents::no_extents(words);
         return Verdict::Refused(reason, status_of(reason));
     }
     if slot[REQUEST_OPERATION] == DISCARD {

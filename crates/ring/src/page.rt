@@ -1,10 +1,10 @@
-// The pages of the ring buffer: port k's begins at PAGE * k.
+// The pages of the ring buffer: port k's begins at RING_BYTES * k.
 use crate::index::next_index;
 use crate::response::write_response;
 use model::Abi;
 use model::Pair;
 use model::Status;
-use model::buffer::PAGE;
+use model::buffer::RING_BYTES;
 use model::layout::REQ_EVENT;
 use model::layout::REQ_PROD;
 ghost use mathlib.Core.Path.{_≡_};
@@ -20,7 +20,7 @@ pub fn req_prod(rings: &[u8], k: usize) -> u32
     requires { ⌜ (k < ports) × (length (now rings) ≡ ringsLength) ⌝ }
     ensures { λ r. ⌜ r ≡ reqProd (pageOf (now (rings .entry)) k) ⌝ }
 {
-    wire::u32_at(rings, PAGE * k + REQ_PROD)
+    wire::u32_at(rings, RING_BYTES * k + REQ_PROD)
 }
 
 // req_event of port k becomes the index after `consumed`, so that the guest notifies us of its next request. Reads nothing.
@@ -28,7 +28,7 @@ pub fn arm(rings: &mut [u8], k: usize, consumed: u32)
     requires { ⌜ (k < ports) × (length (now rings) ≡ ringsLength) ⌝ }
     ensures { λ _. ⌜ now (rings .exit) ≡ setPage (now (rings .entry)) k (setReqEvent (pageOf (now (rings .entry)) k) (after consumed)) ⌝ }
 {
-    wire::put_u32(rings, PAGE * k + REQ_EVENT, next_index(consumed));
+    wire::put_u32(rings, RING_BYTES * k + REQ_EVENT, next_index(consumed));
 }
 
 // A response into port k's page, which is lent on. Reads rsp_event, once.
@@ -43,7 +43,7 @@ pub fn respond(
     requires { ⌜ (k < ports) × (length (now rings) ≡ ringsLength) ⌝ }
     ensures { λ r. ⌜ RespondedIn (ringFor abi) (now (rings .entry)) k produced pair status (now (rings .exit)) r ⌝ }
 {
-    let base = PAGE * k;
-    let end = base + PAGE;
+    let base = RING_BYTES * k;
+    let end = base + RING_BYTES;
     write_response(&mut rings[base..end], abi, produced, pair, status)
 }

@@ -20,7 +20,7 @@ use Rattle.model.proofs.Base.{and-left, and-right, and-false}
 use Rattle.segments.specs.Segments.{passes, Scanned}
 use Rattle.segments.specs.declared.Counted.{Counted}
 use Rattle.segments.proofs.Slot.{all-and, all-snoc, all-fails, length-segments, segments-snoc, within-total, total-snoc}
-use Rattle.segments.proofs.Words.{length-extents, extents-snoc, words-snoc, words-add, take-put}
+use Rattle.extents.proofs.Words.{length-extents, extents-snoc, words-snoc, words-add, take-put}
 
 -- ---- one segment
 

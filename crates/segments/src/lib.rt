@@ -1,11 +1,9 @@
 // Checks 26 and 27 over a request's segments, and the extents that they become.
-use model::grant::MAY_READ;
-use model::grant::MAY_WRITE;
-use model::layout::SEGMENT;
+use model::layout::SEGMENT_BYTES;
 use model::layout::SEGMENT_FIRST;
 use model::layout::SEGMENT_LAST;
-use model::layout::SLOT;
-use model::limit::EXTENT;
+use model::layout::SLOT_BYTES;
+use model::limit::EXTENT_WORDS;
 use model::limit::FRAMES;
 use model::limit::LAST_IN_FRAME;
 use model::operation::READ;
@@ -22,10 +20,8 @@ ghost use Rattle.model.specs.Plan.{planWords};
 ghost use Rattle.model.specs.Ring.{layoutOf, segmentsOf};
 ghost use Rattle.segments.specs.Segments.{Scanned};
 
-pub mod extents;
-
 // The bytes of a segment to each word of its extent.
-const STEP: usize = SEGMENT / EXTENT;
+const STEP: usize = SEGMENT_BYTES / EXTENT_WORDS;
 
 // What a pass over the segments finds: the sectors of all, or that 26 or 27 does not let one pass.
 pub enum Counted {
@@ -39,17 +35,17 @@ fn wide(x: u8) -> u64
     x as u64
 }
 
-// Whether a grant byte serves an operation: a read has the frame written.
-fn serves(grant: u8, operation: u8) -> bool
+// Whether a grant byte suffices for an operation: a read has the frame written.
+fn suffices(grant: u8, operation: u8) -> bool
     ensures { λ r. ⌜ r ≡ suffices operation grant ⌝ }
 {
-    if grant == MAY_WRITE {
+    if grant == model::grant::READ_WRITE {
         return true;
     }
     if operation == READ {
         return false;
     }
-    grant == MAY_READ
+    grant == model::grant::READ
 }
 
 // The first n segments in one pass for both checks, their extents put into `words`. Which of the two failed is looked for only where one did. A disk sector
@@ -57,7 +53,7 @@ fn serves(grant: u8, operation: u8) -> bool
 // number for both places.
 pub fn scan(
     abi: model::Abi,
-    slot: &[u8; SLOT],
+    slot: &[u8; SLOT_BYTES],
     n: usize,
     grants: &[u8],
     operation: u8,
@@ -69,7 +65,7 @@ pub fn scan(
 {
     let mut sector = start;
     let mut place: usize = 0;
-    while place < EXTENT * n {
+    while place < EXTENT_WORDS * n {
         let at = model::layout::segments_at(abi) + STEP * place;
         let frame = wire::u32_at(slot, at);
         let first = slot[at + SEGMENT_FIRST];
@@ -83,19 +79,19 @@ pub fn scan(
         if FRAMES <= frame {
             return Counted::Fault;
         }
-        if !serves(grants[frame as usize], operation) {
+        if !suffices(grants[frame as usize], operation) {
             return Counted::Fault;
         }
         let len = wide(last - first + 1);
         extents::put(words, place, frame as u64, wide(first), len, sector);
         sector = std::num::wrapping_add_u64(sector, len);
-        place += EXTENT;
+        place += EXTENT_WORDS;
     }
     Counted::Sectors(std::num::wrapping_sub_u64(sector, start))
 }
 
 // Which of 26 and 27 the first n segments fail, where they fail one: 26 where any is not within its frame.
-pub fn fault_reason(abi: model::Abi, slot: &[u8; SLOT], n: usize) -> u32
+pub fn fault_reason(abi: model::Abi, slot: &[u8; SLOT_BYTES], n: usize) -> u32
     requires { ⌜ n ≤ maxSegments ⌝ }
     ensures { λ r. ⌜ r ≡ cond (all isWithinFrame (segmentsOf n (layoutOf abi) (now (slot .entry)) 0)) 27 26 ⌝ }
 {

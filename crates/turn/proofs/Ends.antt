@@ -25,10 +25,10 @@ use Rattle.model.specs.declared.Verdict.{Verdict}
 use Rattle.memory.specs.Backend.{backendOf}
 use Rattle.memory.specs.Promise.{Promised}
 use Rattle.memory.proofs.Changes.{promised, nothing-done}
-use Rattle.round.specs.Pick.{picked}
-use Rattle.round.specs.Idle.{Rested}
-use Rattle.round.specs.declared.pick.Pick.{Pick}
-use Rattle.round.proofs.Search.{pick-found, pick-none}
+use Rattle.rotation.specs.Pick.{picked}
+use Rattle.rotation.specs.Idle.{Rested}
+use Rattle.rotation.specs.declared.pick.Pick.{Pick}
+use Rattle.rotation.proofs.Search.{pick-found, pick-none}
 use Rattle.turn.specs.Promise.{TurnPromised}
 use Rattle.turn.specs.Serve.{Turns}
 

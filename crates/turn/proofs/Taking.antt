@@ -13,7 +13,7 @@ use Rattle.model.specs.Backend.{Backend, viewOf, does}
 use Rattle.model.specs.Buffers.{ports, pageShare, pageOf, grantsOf}
 use Rattle.model.specs.Plan.{verdictOf, noWords, wordsBeside}
 use Rattle.model.specs.Port.{isOpen, inFlightOf, distance, pendingOf}
-use Rattle.model.specs.Ring.{reqProd, slotBytes, layoutOf, ringFor, ringOf, slotAt, slotOf, requestOf}
+use Rattle.model.specs.Ring.{reqProd, slotBytes, layoutOf, ringFor, ringOf, slotAt, slotOf, requestOf, requestIn}
 use Rattle.model.specs.Turn.{pendingAt, hasWork, requestAt, settled, overran, servedBy}
 use Rattle.model.proofs.Base.{clash}
 use Rattle.model.proofs.Ring.{fits-for, slot-place, slotAt-room}
@@ -25,7 +25,6 @@ use Rattle.model.specs.declared.Port.{Port}
 use Rattle.model.specs.declared.Status.{Status}
 use Rattle.model.specs.declared.Turned.{Turned}
 use Rattle.model.specs.declared.Verdict.{Verdict}
-use Rattle.checks.specs.Operations.{requestIn}
 use Rattle.memory.specs.Backend.{backendOf}
 use Rattle.turn.specs.Serve.{Reads, Room, Broke, Began, Declined, Turns, settledAt}
 use Rattle.model.proofs.View.{view-params, view-consumed}

@@ -1,15 +1,15 @@
 // One turn: the look for a port with something to serve, and then its service, or the arming of all open ports.
 use memory::WORDS;
 use model::Turned;
-use model::buffer::EXTENTS_END;
-use model::buffer::EXTENTS_FROM;
-use model::buffer::GRANTS;
-use model::buffer::RINGS;
+use model::buffer::GRANTS_BYTES;
+use model::buffer::RINGS_BYTES;
+use model::buffer::TURN_EXTENTS;
+use model::buffer::TURN_EXTENTS_END;
 use model::buffer::TURN_WORDS;
 use model::refusal::WRONG_LENGTH;
-use round::Pick;
-use round::pick_port;
-use round::rest;
+use rotation::Pick;
+use rotation::pick_port;
+use rotation::rest;
 use serve::serve;
 ghost use mathlib.Core.Path.{_≡_};
 ghost use lib.ListN.{length};
@@ -31,10 +31,10 @@ fn turn_into(
     requires { ⌜ length (now words) ≡ planWords ⌝ }
     ensures { λ r. ⌜ Promised (now (memory .entry)) (Turn (now (rings .entry)) (now (grants .entry)) (now (words .entry))) (record { rings = now (rings .exit); words = now (words .exit); answer = r }) (now (memory .exit)) ⌝ }
 {
-    if rings.len() != RINGS {
+    if rings.len() != RINGS_BYTES {
         return Turned::Refused(WRONG_LENGTH);
     }
-    if grants.len() != GRANTS {
+    if grants.len() != GRANTS_BYTES {
         return Turned::Refused(WRONG_LENGTH);
     }
     let pick = pick_port(memory, rings);
@@ -58,11 +58,11 @@ fn turn_within(
         memory,
         rings,
         grants,
-        &mut answer[EXTENTS_FROM..EXTENTS_END],
+        &mut answer[TURN_EXTENTS..TURN_EXTENTS_END],
     )
 }
 
-// Takes a turn. A plan's extents stand in the answer's words from EXTENTS_FROM on; no other word of it is touched. Reads the rings only as `turn_into` does.
+// Takes a turn. A plan's extents stand in the answer's words from TURN_EXTENTS on; no other word of it is touched. Reads the rings only as `turn_into` does.
 pub fn turn(
     memory: &mut [u64; WORDS],
     rings: &mut [u8],

@@ -12,9 +12,9 @@ use model::Tag;
 use model::TagId;
 use model::Turned;
 use model::Verdict;
-use model::buffer::GRANT_SHARE;
-use model::buffer::PAGE;
+use model::buffer::PORT_GRANTS;
 use model::buffer::PORTS;
+use model::buffer::RING_BYTES;
 use model::layout::ring_size;
 use model::operation::DISCARD;
 use model::operation::FLUSH;
@@ -121,12 +121,12 @@ fn take(
     ensures { λ r. ⌜ Turns (now (memory .entry)) (now (rings .entry)) (settledAt (backendOf (now (memory .entry))) (now (rings .entry)) (now (grants .entry)) k) (now (rings .exit)) (now (words .exit)) r (now (memory .exit)) ⌝ }
 {
     let consumed = memory::consumed(memory, k);
-    let at = PAGE * k + ring::slot_at(memory::abi(memory, k), consumed);
+    let at = RING_BYTES * k + ring::slot_at(memory::abi(memory, k), consumed);
     let slot = ring::copy_slot(rings, at);
     let p = memory::port_at(memory, k);
     let params = p.params;
-    let from = GRANT_SHARE * k;
-    let end = from + GRANT_SHARE;
+    let from = PORT_GRANTS * k;
+    let end = from + PORT_GRANTS;
     let verdict = request::judge(params, &slot, &grants[from..end], words);
     let abi = params.abi;
     let pair = request::pair_of(abi, &slot);
@@ -164,7 +164,7 @@ pub fn serve(
     let d = ring::distance(published, memory::consumed(memory, k));
     let marks = memory::busy_marks(memory, k);
     if overruns(memory::abi(memory, k), marks, d) {
-        segments::extents::no_extents(words);
+        extents::no_extents(words);
         return overrun(memory, k);
     }
     take(memory, rings, grants, words, k)

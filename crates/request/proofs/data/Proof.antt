@@ -6,14 +6,13 @@ use Prim.Native.Nat.{ℕ, _+_, _^_, _<_, _≤_}
 use native.Mathlib.Omega.{arith}
 use lib.ListN.{length}
 use Rattle.model.specs.Base.{all}
-use Rattle.model.specs.Ring.{Request, requestOf, layoutOf}
+use Rattle.model.specs.Ring.{Request, requestOf, layoutOf, requestIn}
 use Rattle.model.specs.Checks.{totalSectors, operationChecks, diskChecks, firstFailed}
 use Rattle.model.specs.Plan.{extentWords}
 use Rattle.model.specs.declared.Checked.{Checked}
 use Rattle.segments.specs.Segments.{passes, Scanned}
 use Rattle.segments.proofs.Pass.{scan-fault, scan-sectors, words-all}
 use Rattle.segments.proofs.Slot.{length-segments}
-use Rattle.checks.specs.Operations.{requestIn}
 use Rattle.checks.proofs.DiskRange.{passed-within}
 use Rattle.checks.proofs.Steps.{operation-passed}
 use Rattle.request.proofs.Verdict.{data-few, data-fault, data-refused, data-started, data-extents, same-start, judged-refused, judged-start}

@@ -3,11 +3,10 @@ use borrow.Author.Needs.{needs}
 use borrow.Author.Tests.{ne-eqb}
 use mathlib.Core.Path.{_≡_, refl, sym, ap, ap₂, _∙_}
 use Prim.Native.Nat.{ℕ, _%_}
-use Rattle.model.specs.Ring.{Request, requestOf}
+use Rattle.model.specs.Ring.{Request, requestOf, requestIn}
 use Rattle.model.specs.Checks.{operationChecks, diskChecks, firstFailed}
 use Rattle.model.specs.Plan.{extentWords}
 use Rattle.model.specs.declared.Checked.{Checked}
-use Rattle.checks.specs.Operations.{requestIn}
 use Rattle.checks.proofs.Steps.{operation-passed}
 use Rattle.request.proofs.Verdict.{discard-refused, discard-started, discard-extents, same-start, judged-refused, judged-start}
 use Rattle.request.proofs.discard.Statement.{statement}
@@ -74,8 +73,8 @@ returns c =
 enum-told : tie.Need-enum-told
 enum-told c = search needs
 
-clear-from-requires : tie.Need-clear-from-requires
-clear-from-requires c κs = search needs
+no-extents-requires : tie.Need-no-extents-requires
+no-extents-requires c κs = search needs
 
 element-copy-out-if1 : tie.Need-element-copy-out-if1
 element-copy-out-if1 c = search needs
@@ -97,7 +96,7 @@ returns-2 c =
     judged-start (a .params) (a .grants .now) (a .slot .now) _ _ _
     (discard-started (a .params) (a .grants .now) (asked o) (passed o) (o .pre .1) (sym (ranged k) ∙ told .enum-told .given .1))
     (c .start-discard .ensures ∙ rw (c .before .if1 .taken) (same-start 5 _ (begins k) (counts k) refl))
-    (cleared .clear-from .ensures ∙ ap (extentWords 11) (sym (discard-extents (a .params) (a .grants .now) (asked o) (passed o) (o .pre .1))))
+    (cleared .no-extents .ensures ∙ ap (extentWords 11) (sym (discard-extents (a .params) (a .grants .now) (asked o) (passed o) (o .pre .1))))
 
 start-discard-requires-2 : tie.Need-start-discard-requires-2
 start-discard-requires-2 c κs = search needs
@@ -116,7 +115,7 @@ returns-3 c =
     judged-start (a .params) (a .grants .now) (a .slot .now) _ _ _
     (discard-started (a .params) (a .grants .now) (asked o) (passed o) (o .pre .1) (sym (ranged k) ∙ told .enum-told .given .1))
     (c .start-discard2 .ensures ∙ rw (ne-eqb (asked o .flag % 2) 1 (c .before .if1 .left)) (same-start 5 _ (begins k) (counts k) refl))
-    (cleared .clear-from .ensures ∙ ap (extentWords 11) (sym (discard-extents (a .params) (a .grants .now) (asked o) (passed o) (o .pre .1))))
+    (cleared .no-extents .ensures ∙ ap (extentWords 11) (sym (discard-extents (a .params) (a .grants .now) (asked o) (passed o) (o .pre .1))))
 
 pub discard-spec : {M : Type 1} → statement M
 discard-spec =
@@ -132,7 +131,7 @@ discard-spec =
     same-length
     returns
     enum-told
-    clear-from-requires
+    no-extents-requires
     element-copy-out-if1
     start-discard-requires
     same-length-2

@@ -2,9 +2,8 @@
 use borrow.Author.Needs.{needs}
 use mathlib.Core.Path.{_≡_, sym, ap, _∙_}
 use mathlib.Core.List.{[]}
-use Rattle.model.specs.Ring.{requestOf, segmentsOf}
+use Rattle.model.specs.Ring.{requestOf, segmentsOf, requestIn}
 use Rattle.model.specs.Plan.{extentWords}
-use Rattle.checks.specs.Operations.{requestIn}
 use Rattle.checks.proofs.Steps.{operation-passed, operation-refused}
 use Rattle.request.proofs.Verdict.{operation-verdict, empty-started, empty-extents, judged-refused, judged-start}
 use Rattle.request.proofs.judge.Statement.{statement}
@@ -13,8 +12,8 @@ use Rattle.request.proofs.judge.Tie as tie
 operation-reason-requires : tie.Need-operation-reason-requires
 operation-reason-requires c κs = search needs
 
-clear-from-requires : tie.Need-clear-from-requires
-clear-from-requires c κs = search needs
+no-extents-requires : tie.Need-no-extents-requires
+no-extents-requires c κs = search needs
 
 status-of-requires : tie.Need-status-of-requires
 status-of-requires c κs = search needs
@@ -33,7 +32,7 @@ returns c =
     judged-refused (a .params) (a .grants .now) (a .slot .now) _ _ _ _
     (operation-verdict (a .params) (a .grants .now) r _ _ (operation-refused (a .params) r (λ z. test .if1 .taken (reason ∙ z))))
     (rw (c .status-of .ensures, reason))
-    (cleared .clear-from .ensures)
+    (cleared .no-extents .ensures)
 
 element-copy-out-if2 : tie.Need-element-copy-out-if2
 element-copy-out-if2 c = search needs
@@ -89,7 +88,7 @@ judge-spec =
     tie.close
     (tie.spec
     operation-reason-requires
-    clear-from-requires
+    no-extents-requires
     status-of-requires
     same-length
     returns

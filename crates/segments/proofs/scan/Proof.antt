@@ -103,14 +103,14 @@ returns-3 c =
     let frame = rw (at-segment g) at (u .u32-at .ensures) in
     fails g _ (fails-frame (entry g .args .grants .now) _ (segment g) (rw frame at (c .if3 .taken)))
 
-cast-serves : tie.Need-cast-serves Inv-loop μ-loop
-cast-serves c = search needs
+cast-suffices : tie.Need-cast-suffices Inv-loop μ-loop
+cast-suffices c = search needs
 
-shared-slice-read-serves : tie.Need-shared-slice-read-serves Inv-loop μ-loop
-shared-slice-read-serves c = search needs
+shared-slice-read-suffices : tie.Need-shared-slice-read-suffices Inv-loop μ-loop
+shared-slice-read-suffices c = search needs
 
-serves-requires : tie.Need-serves-requires Inv-loop μ-loop
-serves-requires c κs = search needs
+suffices-requires : tie.Need-suffices-requires Inv-loop μ-loop
+suffices-requires c κs = search needs
 
 same-length-4 : tie.Need-same-length-4 Inv-loop μ-loop
 same-length-4 c = search needs
@@ -121,7 +121,7 @@ returns-4 c =
     let u = c .before .before .before .before .before .before .before .before in
     let g = u .before .before in
     let frame = rw (at-segment g) at (u .u32-at .ensures) in
-    fails g _ (fails-grant (entry g .args .grants .now) _ (segment g) (rw frame at (sym (c .before .serves .ensures) ∙ not-true _ (c .if4 .taken))))
+    fails g _ (fails-grant (entry g .args .grants .now) _ (segment g) (rw frame at (sym (c .before .suffices .ensures) ∙ not-true _ (c .if4 .taken))))
 
 add-wide : tie.Need-add-wide Inv-loop μ-loop
 add-wide c = search needs
@@ -168,7 +168,7 @@ loop-again c =
     let first : put .before .wide2 .result ≡ s .first = rw at-i at (put .before .wide2 .ensures) in
     let sum = rw at-i at (put .before .before .before .wide .ensures) in
     let len : put .before .before .before .wide .result ≡ sectorsIn s = omega arith in
-    let right = rw frame at (sym (e4 .before .serves .ensures) ∙ not-false _ (e4 .if4 .left)) in
+    let right = rw frame at (sym (e4 .before .suffices .ensures) ∙ not-false _ (e4 .if4 .left)) in
     let here : l .place ≡ 4 * (l .place / 4) = l .inv .1 in
     let next : (l .place + 4) / 4 ≡ l .place / 4 + 1 = omega arith in
     let more : l .place / 4 < a .n = omega (arith, g .before .loop-test .taken, here) in
@@ -216,9 +216,9 @@ scan-spec =
     returns-2
     same-length-3
     returns-3
-    cast-serves
-    shared-slice-read-serves
-    serves-requires
+    cast-suffices
+    shared-slice-read-suffices
+    suffices-requires
     same-length-4
     returns-4
     add-wide

@@ -5,7 +5,7 @@ use mathlib.Core.Path.{sym, _∙_}
 use native.Mathlib.Nat.{mod-lt}
 use Rattle.model.specs.Backend.{viewOf}
 use Rattle.memory.specs.Backend.{backendOf}
-use Rattle.round.proofs.Search.{pick-found}
+use Rattle.rotation.proofs.Search.{pick-found}
 use Rattle.turn.proofs.Ends.{wrong-rings, wrong-grants, turn-idle, turn-served}
 use Rattle.turn.proofs.turn_into.Statement.{statement}
 use Rattle.turn.proofs.turn_into.Tie as tie

@@ -2,8 +2,7 @@
 use borrow.Author.Tests.{not-true, not-false}
 use borrow.Author.Needs.{needs}
 use mathlib.Core.Path.{sym, _∙_}
-use Rattle.model.specs.Ring.{requestOf}
-use Rattle.checks.specs.Operations.{requestIn}
+use Rattle.model.specs.Ring.{requestOf, requestIn}
 use Rattle.checks.proofs.OperationReasons.{discard-off, discard-insecure, reason-discard, secure-on, secure-unasked}
 use Rattle.checks.proofs.operations.discard_reason.Statement.{statement}
 use Rattle.checks.proofs.operations.discard_reason.Tie as tie

@@ -7,8 +7,7 @@ use mathlib.Core.Path.{_≡_, refl, sym, ap, _∙_}
 use Rattle.wire.specs.Part.{part}
 use Rattle.model.specs.Buffers.{pageShare, grantsOf}
 use Rattle.model.specs.Plan.{wordsBeside}
-use Rattle.model.specs.Ring.{slotBytes, ringOf, slotAt}
-use Rattle.checks.specs.Operations.{requestIn}
+use Rattle.model.specs.Ring.{slotBytes, ringOf, slotAt, requestIn}
 use Rattle.request.proofs.Expected.{expected-fits}
 use Rattle.memory.specs.Backend.{backendOf}
 use Rattle.turn.specs.Serve.{Reads}

@@ -1,4 +1,4 @@
--- `round::idle::arm_ports` meets its contract. The invariant: the ports passed are armed. Assumes nothing.
+-- `rotation::idle::arm_ports` meets its contract. The invariant: the ports passed are armed. Assumes nothing.
 use borrow.Author.Needs.{needs}
 use mathlib.Core.Path.{_≡_, refl, ap, _∙_}
 use mathlib.Core.List.{List}
@@ -10,8 +10,8 @@ use Rattle.model.specs.Backend.{viewOf}
 use Rattle.model.specs.Buffers.{ports, ringsLength}
 use Rattle.model.specs.Turn.{armed, armedPort}
 use Rattle.memory.specs.Backend.{backendOf}
-use Rattle.round.proofs.idle.arm_ports.Statement.{statement}
-use Rattle.round.proofs.idle.arm_ports.Tie as tie
+use Rattle.rotation.proofs.idle.arm_ports.Statement.{statement}
+use Rattle.rotation.proofs.idle.arm_ports.Tie as tie
 
 abbrev Inv-loop : tie.InvT-loop
 Inv-loop memory rings₀ k₀ rings k =

@@ -15,9 +15,9 @@ use Rattle.model.specs.Ring.{reqProd}
 use Rattle.model.specs.Turn.{pendingAt, hasWork, lookedAt, passedOver}
 use Rattle.model.proofs.Base.{least-is, least-found, clash}
 use Rattle.model.proofs.Fairness.{work-is}
-use Rattle.round.specs.Pick.{lookOf, pickAt, picked}
-use Rattle.round.specs.declared.pick.Look.{Look}
-use Rattle.round.specs.declared.pick.Pick.{Pick}
+use Rattle.rotation.specs.Pick.{lookOf, pickAt, picked}
+use Rattle.rotation.specs.declared.pick.Look.{Look}
+use Rattle.rotation.specs.declared.pick.Pick.{Pick}
 
 -- ---- one port
 

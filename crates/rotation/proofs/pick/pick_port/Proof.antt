@@ -1,4 +1,4 @@
--- `round::pick::pick_port` meets its contract. The invariant: none of the ports passed over has anything to serve. Assumes nothing.
+-- `rotation::pick::pick_port` meets its contract. The invariant: none of the ports passed over has anything to serve. Assumes nothing.
 use borrow.Author.Needs.{needs}
 use mathlib.Core.Path.{_≡_, sym, subst, _∙_}
 use Prim.Native.Nat.{ℕ, _-_, _<_}
@@ -6,11 +6,11 @@ use native.Mathlib.Omega.{arith}
 use Rattle.model.specs.Backend.{viewOf}
 use Rattle.model.specs.Buffers.{ports}
 use Rattle.memory.specs.Backend.{backendOf}
-use Rattle.round.specs.Pick.{lookOf}
-use Rattle.round.specs.declared.pick.Look.{Look}
-use Rattle.round.proofs.Search.{gone, gone-next, gone-last, Passed, passed-none, passed-more, found-here, found-none, begins}
-use Rattle.round.proofs.pick.pick_port.Statement.{statement}
-use Rattle.round.proofs.pick.pick_port.Tie as tie
+use Rattle.rotation.specs.Pick.{lookOf}
+use Rattle.rotation.specs.declared.pick.Look.{Look}
+use Rattle.rotation.proofs.Search.{gone, gone-next, gone-last, Passed, passed-none, passed-more, found-here, found-none, begins}
+use Rattle.rotation.proofs.pick.pick_port.Statement.{statement}
+use Rattle.rotation.proofs.pick.pick_port.Tie as tie
 
 abbrev Inv-loop : tie.InvT-loop
 Inv-loop memory rings first k₀ k =

@@ -7,8 +7,8 @@ use Rattle.model.specs.Buffers.{ports, pageOf}
 use Rattle.model.specs.Port.{View}
 use Rattle.model.specs.Ring.{reqProd}
 use Rattle.model.specs.Turn.{hasWork, lookedAt, passedOver}
-use Rattle.round.specs.declared.pick.Look.{Look}
-use Rattle.round.specs.declared.pick.Pick.{Pick}
+use Rattle.rotation.specs.declared.pick.Look.{Look}
+use Rattle.rotation.specs.declared.pick.Pick.{Pick}
 
 -- what is seen of port k (rule 4.13)
 unfoldable pub lookOf : View → List ℕ → ℕ → Look

@@ -8,7 +8,7 @@ ghost use lib.ListN.{length};
 ghost use Rattle.model.specs.Backend.{viewOf};
 ghost use Rattle.model.specs.Buffers.{ports, ringsLength};
 ghost use Rattle.memory.specs.Backend.{backendOf};
-ghost use Rattle.round.specs.Pick.{lookOf, picked};
+ghost use Rattle.rotation.specs.Pick.{lookOf, picked};
 
 // What is seen of one port: its req_prod, where it has something to serve.
 pub enum Look {

@@ -1,8 +1,8 @@
--- `round::idle::rest` meets its contract: what is armed and cleared, and memory as it was. Assumes nothing.
+-- `rotation::idle::rest` meets its contract: what is armed and cleared, and memory as it was. Assumes nothing.
 use borrow.Author.Needs.{needs}
 use mathlib.Core.Path.{refl}
-use Rattle.round.proofs.idle.rest.Statement.{statement}
-use Rattle.round.proofs.idle.rest.Tie as tie
+use Rattle.rotation.proofs.idle.rest.Statement.{statement}
+use Rattle.rotation.proofs.idle.rest.Tie as tie
 
 arm-ports-requires : tie.Need-arm-ports-requires
 arm-ports-requires c κs = search needs

@@ -1,9 +1,9 @@
--- `round::idle::arm_port` meets its contract, by the state of the port. Assumes nothing.
+-- `rotation::idle::arm_port` meets its contract, by the state of the port. Assumes nothing.
 use borrow.Author.Needs.{needs}
 use Rattle.memory.specs.Backend.{backendOf}
 use Rattle.model.proofs.View.{view-state, view-consumed}
-use Rattle.round.proofs.idle.arm_port.Statement.{statement}
-use Rattle.round.proofs.idle.arm_port.Tie as tie
+use Rattle.rotation.proofs.idle.arm_port.Statement.{statement}
+use Rattle.rotation.proofs.idle.arm_port.Tie as tie
 
 port-at-requires : tie.Need-port-at-requires
 port-at-requires c κs = search needs

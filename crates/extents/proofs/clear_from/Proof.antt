@@ -1,4 +1,4 @@
--- `segments::extents::clear_from` meets its contract. The invariant: the words in front are kept, and zeros follow up to place i. Assumes nothing.
+-- `extents::clear_from` meets its contract. The invariant: the words in front are kept, and zeros follow up to place i. Assumes nothing.
 use borrow.Author.Needs.{needs}
 use mathlib.Core.Path.{_≡_, sym, ap, _∙_}
 use mathlib.Core.List.{[], _∷_, _++_, append-nil}
@@ -7,9 +7,9 @@ use native.Mathlib.Omega.{arith}
 use lib.ListN.{length, take}
 use lib.Seq.{take-all, length-sets}
 use Rattle.model.specs.Plan.{extentWords}
-use Rattle.segments.proofs.Words.{clear-more}
-use Rattle.segments.proofs.extents.clear_from.Statement.{statement}
-use Rattle.segments.proofs.extents.clear_from.Tie as tie
+use Rattle.extents.proofs.Words.{clear-more}
+use Rattle.extents.proofs.clear_from.Statement.{statement}
+use Rattle.extents.proofs.clear_from.Tie as tie
 
 abbrev Inv-loop : tie.InvT-loop
 Inv-loop words₀ from i₀ words i =

@@ -1,10 +1,10 @@
--- `segments::extents::put` meets its contract: four stores in a row. Assumes nothing.
+-- `extents::put` meets its contract: four stores in a row. Assumes nothing.
 use borrow.Author.Needs.{needs}
 use native.Mathlib.Numerals.{towards-suc}
 use native.Mathlib.Omega.{arith}
 use lib.ListN.{length-set}
-use Rattle.segments.proofs.extents.put.Statement.{statement}
-use Rattle.segments.proofs.extents.put.Tie as tie
+use Rattle.extents.proofs.put.Statement.{statement}
+use Rattle.extents.proofs.put.Tie as tie
 
 mul-words : tie.Need-mul-words
 mul-words c = search needs

@@ -11,7 +11,7 @@ ghost use Rattle.model.specs.Buffers.{ports, ringsLength};
 ghost use Rattle.model.specs.Plan.{planWords};
 ghost use Rattle.model.specs.Turn.{armedPort, armed};
 ghost use Rattle.memory.specs.Backend.{backendOf};
-ghost use Rattle.round.specs.Idle.{Rested};
+ghost use Rattle.rotation.specs.Idle.{Rested};
 
 // req_event of port k, where it is open. Reads no guest byte.
 fn arm_port(memory: &[u64; WORDS], rings: &mut [u8], k: usize)
@@ -47,6 +47,6 @@ pub fn rest(memory: &mut [u64; WORDS], rings: &mut [u8], words: &mut [u64]) -> T
     ensures { λ r. ⌜ Rested (now (memory .entry)) (now (rings .entry)) r (now (rings .exit)) (now (words .exit)) (now (memory .exit)) ⌝ }
 {
     arm_ports(memory, rings);
-    segments::extents::no_extents(words);
+    extents::no_extents(words);
     Turned::Idle
 }

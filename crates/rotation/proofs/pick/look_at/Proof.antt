@@ -1,11 +1,11 @@
--- `round::pick::look_at` meets its contract, by the state of the port. Assumes nothing.
+-- `rotation::pick::look_at` meets its contract, by the state of the port. Assumes nothing.
 use borrow.Author.Needs.{needs}
 use native.Mathlib.Omega.{arith}
 use Rattle.memory.specs.Backend.{backendOf}
 use Rattle.memory.proofs.Backend.{backend-ranged}
-use Rattle.round.proofs.Search.{look-shut, look-same, look-work}
-use Rattle.round.proofs.pick.look_at.Statement.{statement}
-use Rattle.round.proofs.pick.look_at.Tie as tie
+use Rattle.rotation.proofs.Search.{look-shut, look-same, look-work}
+use Rattle.rotation.proofs.pick.look_at.Statement.{statement}
+use Rattle.rotation.proofs.pick.look_at.Tie as tie
 
 port-at-requires : tie.Need-port-at-requires
 port-at-requires c κs = search needs

@@ -1,6 +1,6 @@
 // The words of the extents: four to each of eleven places, in the order frame, first sector, number of sectors, disk sector.
-use model::limit::EXTENT;
-use model::limit::SEGMENTS;
+use model::limit::EXTENT_WORDS;
+use model::limit::EXTENTS;
 ghost use mathlib.Core.Path.{_≡_};
 ghost use mathlib.Core.List.{[], _∷_, _++_};
 ghost use Prim.Native.Nat.{_+_, _*_, _-_, _≤_};
@@ -26,8 +26,8 @@ pub fn clear_from(words: &mut [u64], from: usize)
     ensures { λ _. ⌜ now (words .exit) ≡ take (4 * from) (now (words .entry)) ++ extentWords (maxSegments - from) [] ⌝ }
 {
     let mut i = from;
-    while i < SEGMENTS {
-        put(words, EXTENT * i, 0, 0, 0, 0);
+    while i < EXTENTS {
+        put(words, EXTENT_WORDS * i, 0, 0, 0, 0);
         i += 1;
     }
 }

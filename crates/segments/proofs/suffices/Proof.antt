@@ -1,10 +1,10 @@
--- `segments::serves` meets its contract. Assumes nothing.
+-- `segments::suffices` meets its contract. Assumes nothing.
 use borrow.Author.Tests.{ne-eqb}
 use mathlib.Core.Path.{_≡_, refl}
 use mathlib.Core.Bool.{Bool, true, false, cond, _||_}
 use lib.Dec.{eqb}
-use Rattle.segments.proofs.serves.Statement.{statement}
-use Rattle.segments.proofs.serves.Tie as tie
+use Rattle.segments.proofs.suffices.Statement.{statement}
+use Rattle.segments.proofs.suffices.Tie as tie
 
 always : (b : Bool) → true ≡ cond b true true
 always true = refl
@@ -25,5 +25,5 @@ returns-3 c =
     let a = c .before .before .args in
     rw (ne-eqb (a .operation) 0 (c .if2 .left), ne-eqb (a .grant) 2 (c .before .if1 .left)) (or-false (eqb (a .grant) 1))
 
-pub serves-spec : {M : Type 1} → statement M
-serves-spec = tie.close (tie.spec returns returns-2 returns-3)
+pub suffices-spec : {M : Type 1} → statement M
+suffices-spec = tie.close (tie.spec returns returns-2 returns-3)
