@@ -14,9 +14,9 @@
  * so a host whose guests can do so lends a copy.
  *
  * Names. What a call or a word of an answer says is KH_ and its own name (KH_NOT_BUSY, KH_READ_ONLY, KH_STARTED); the
- * Rattle and Rust sources spell the same names NotBusy, ReadOnly, Started. What is handed in has its kind first
- * (KH_NODE_MODE, KH_GRANT_READ), and so have the places of words (KH_TURN_PORT, KH_DONE_PORT, KH_EXTENT_FRAME). Sizes
- * end in their unit (KH_RING_BYTES), counts are plurals (KH_PORTS), and a page's indices are called as in ring.h.
+ * Rattle sources have the same names without KH_, the Rust ones as NotBusy, ReadOnly. What is handed in has its kind
+ * first (KH_NODE_MODE, KH_GRANT_READ), and so have the places of words (KH_TURN_PORT, KH_DONE_PORT, KH_EXTENT_FRAME).
+ * Sizes end in their unit (KH_RING_BYTES), counts are plurals (KH_PORTS), and a page's indices are called as in ring.h.
  */
 #ifndef KERNELHARP_H
 #define KERNELHARP_H
@@ -52,7 +52,7 @@ uint32_t kh_memory_words(void);
 #define KH_REQ_EVENT      4  /* ours: the guest notifies when req_prod gets here */
 #define KH_RSP_PROD       8  /* ours: responses published */
 #define KH_RSP_EVENT      12 /* the guest's: we notify when rsp_prod gets here */
-#define KH_SLOTS_AT       64 /* slot s is at KH_SLOTS_AT + KH_SLOT_BYTES * s */
+#define KH_HEADER_BYTES   64 /* slot s is at KH_HEADER_BYTES + KH_SLOT_BYTES * s */
 #define KH_SLOTS          32
 #define KH_SLOT_BYTES     112
 #define KH_RESPONSE_BYTES 16 /* a response is the begin of its slot; the slot's other bytes stay */
@@ -310,7 +310,7 @@ KH_HOLDS(lengths_have_64_bits, sizeof(size_t) == 8 && sizeof(void *) == 8);
 KH_HOLDS(memory_is_its_words, sizeof(kh_memory) == 8 * KH_MEMORY_WORDS);
 KH_HOLDS(rings_are_a_page_a_port, KH_RINGS_BYTES == KH_PORTS * KH_RING_BYTES);
 KH_HOLDS(grants_are_a_share_a_port, KH_GRANTS_BYTES == KH_PORTS * KH_PORT_GRANTS);
-KH_HOLDS(slots_fit_the_page, KH_SLOTS_AT + KH_SLOTS * KH_SLOT_BYTES <= KH_RING_BYTES);
+KH_HOLDS(slots_fit_the_page, KH_HEADER_BYTES + KH_SLOTS * KH_SLOT_BYTES <= KH_RING_BYTES);
 KH_HOLDS(a_response_fits_its_slot, KH_RESPONSE_BYTES <= KH_SLOT_BYTES);
 KH_HOLDS(extents_fit_the_answer, KH_TURN_EXTENTS + KH_EXTENTS * KH_EXTENT_WORDS <= KH_TURN_WORDS);
 #undef KH_HOLDS

@@ -2,7 +2,7 @@
 
 use crate::{Ask, Both};
 use kernelharp::layout::{
-    page, slot_at, write_u32, GRANTS_BYTES, PAGE_BYTES, PORTS, PORT_GRANTS, REQ_PROD, RINGS_BYTES,
+    page, slot_at, write_u32, GRANTS_BYTES, RING_BYTES, PORTS, PORT_GRANTS, REQ_PROD, RINGS_BYTES,
     SLOT_BYTES,
 };
 use kernelharp::Completion;
@@ -56,7 +56,7 @@ impl Bench {
 
     /// Writes a number on a port's page.
     pub fn set_u32(&mut self, port: usize, at: usize, value: u32) {
-        write_u32(&mut self.rings, PAGE_BYTES * port + at, value);
+        write_u32(&mut self.rings, RING_BYTES * port + at, value);
     }
 
     /// Writes req_prod; the guest goes on from there.
@@ -67,7 +67,7 @@ impl Bench {
 
     /// Puts a request where the guest's next one belongs.
     pub fn post(&mut self, port: usize, ask: &Ask) {
-        let at = PAGE_BYTES * port + slot_at(self.produced[port]);
+        let at = RING_BYTES * port + slot_at(self.produced[port]);
         self.rings[at..at + SLOT_BYTES].copy_from_slice(&ask.bytes());
         self.set_req_prod(port, self.produced[port].wrapping_add(1));
     }

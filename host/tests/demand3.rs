@@ -2,7 +2,7 @@
 
 use history::{Event, History};
 use kernelharp::layout::{
-    slot_at, write_u32, GRANTS_BYTES, PAGE_BYTES, REQ_EVENT, REQ_PROD, RINGS_BYTES,
+    slot_at, write_u32, GRANTS_BYTES, RING_BYTES, REQ_EVENT, REQ_PROD, RINGS_BYTES,
 };
 use kernelharp::words::{done, kind, turn, DONE_WORDS, TURN_WORDS};
 use tests::usual_sheet;
@@ -40,7 +40,7 @@ impl Story {
     }
 
     fn set(&mut self, port: usize, at: usize, value: u32) {
-        write_u32(&mut self.rings, PAGE_BYTES * port + at, value);
+        write_u32(&mut self.rings, RING_BYTES * port + at, value);
         self.left.clone_from(&self.rings);
     }
 

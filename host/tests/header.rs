@@ -1,4 +1,4 @@
-//! The numbers of the Rust package are those of the C header.
+//! The numbers of the Rust package are those of the C header, and so are those of the Rattle sources.
 
 use kernelharp::words::{done, extent, kind, turn, DONE_WORDS, TURN_WORDS};
 use kernelharp::{layout, Operation, Reason, Refusal, Status, MEMORY_WORDS, VERSION};
@@ -66,17 +66,17 @@ fn sizes_and_places() {
         ("KH_PORTS", layout::PORTS),
         ("KH_RINGS_BYTES", layout::RINGS_BYTES),
         ("KH_GRANTS_BYTES", layout::GRANTS_BYTES),
-        ("KH_RING_BYTES", layout::PAGE_BYTES),
+        ("KH_RING_BYTES", layout::RING_BYTES),
         ("KH_PORT_GRANTS", layout::PORT_GRANTS),
         ("KH_REQ_PROD", layout::REQ_PROD),
         ("KH_REQ_EVENT", layout::REQ_EVENT),
         ("KH_RSP_PROD", layout::RSP_PROD),
         ("KH_RSP_EVENT", layout::RSP_EVENT),
-        ("KH_SLOTS_AT", layout::HEADER_BYTES),
+        ("KH_HEADER_BYTES", layout::HEADER_BYTES),
         ("KH_SLOTS", layout::SLOTS),
         ("KH_SLOT_BYTES", layout::SLOT_BYTES),
         ("KH_RESPONSE_BYTES", layout::RESPONSE_BYTES),
-        ("KH_EXTENTS", layout::MAX_EXTENTS),
+        ("KH_EXTENTS", layout::EXTENTS),
     ] {
         assert_eq!(header.get(name), Some(&(number as i64)), "{name}");
     }
@@ -134,4 +134,75 @@ fn refusals_and_reasons() {
     same_names(refusals, rust.map(|it| (it, it as i64)));
     let rust = (0..100).filter_map(Reason::from_number);
     same_names(cases("kh_reason"), rust.map(|it| (it, it as i64)));
+}
+
+/// A Rattle source.
+macro_rules! source {
+    ($path:literal) => {
+        include_str!(concat!("../../crates/", $path, ".rt"))
+    };
+}
+
+/// The constants of a Rattle source that are plain numbers, each behind a prefix.
+fn rattle(source: &'static str, prefix: &str) -> BTreeMap<String, i64> {
+    let constants = source.lines().filter_map(|line| {
+        let (name, rest) = line
+            .strip_prefix("pub const ")
+            .or(line.strip_prefix("const "))?
+            .split_once(':')?;
+        let number = rest
+            .split_once('=')?
+            .1
+            .trim()
+            .strip_suffix(';')?
+            .parse()
+            .ok()?;
+        Some((format!("{prefix}{name}"), number))
+    });
+    constants.collect()
+}
+
+#[test]
+fn rattle_refusals_reasons_operations_and_nodes() {
+    for (source, prefix, name) in [
+        (source!("model/src/refusal"), "KH_", "kh_refusal"),
+        (source!("model/src/reason"), "KH_", "kh_reason"),
+        (source!("model/src/operation"), "KH_", "kh_operation"),
+        (source!("model/src/node"), "KH_NODE_", "kh_node"),
+    ] {
+        let mut header = cases(name);
+        header.remove("KH_OK");
+        header.remove("KH_NODES");
+        let rattle = rattle(source, prefix);
+        assert_eq!(
+            rattle
+                .iter()
+                .map(|(name, it)| (name.as_str(), *it))
+                .collect::<Numbers>(),
+            header
+        );
+    }
+}
+
+#[test]
+fn rattle_sizes_and_places() {
+    let header = numbers(HEADER);
+    let mut met = 0;
+    for (source, prefix) in [
+        (source!("model/src/buffer"), "KH_"),
+        (source!("model/src/layout"), "KH_"),
+        (source!("model/src/limit"), "KH_"),
+        (source!("model/src/grant"), "KH_GRANT_"),
+        (source!("answers/src/turned"), "KH_TURN_"),
+        (source!("answers/src/turned"), "KH_"),
+        (source!("answers/src/completed"), "KH_"),
+    ] {
+        for (name, number) in rattle(source, prefix) {
+            if let Some(there) = header.get(name.as_str()) {
+                assert_eq!(number, *there, "{name}");
+                met += 1;
+            }
+        }
+    }
+    assert!(met >= 30, "only {met} names in common");
 }

@@ -5,7 +5,7 @@
 
 use frontend::GuestPage;
 use generate::{Buffer, Call, Generator, Outcome, Step, World};
-use kernelharp::layout::{page, PAGE_BYTES, PORTS, PORT_GRANTS};
+use kernelharp::layout::{page, RING_BYTES, PORTS, PORT_GRANTS};
 use kernelharp::live::LiveBackend;
 use kernelharp::{Completion, Done, Name, Port, Refusal, Serial, Tag, Turn};
 
@@ -20,7 +20,7 @@ impl Live {
     fn new() -> Live {
         let pages = std::array::from_fn(|_| GuestPage::new());
         for page in &pages {
-            page.write(0, &[0; PAGE_BYTES]);
+            page.write(0, &[0; RING_BYTES]);
         }
         Live {
             pages,
@@ -32,8 +32,8 @@ impl Live {
         for write in &step.writes {
             match write.buffer {
                 Buffer::Rings => {
-                    let page = self.pages[write.at / PAGE_BYTES];
-                    page.write(write.at % PAGE_BYTES, &write.bytes);
+                    let page = self.pages[write.at / RING_BYTES];
+                    page.write(write.at % RING_BYTES, &write.bytes);
                 }
                 Buffer::Grants => self.grant(write.at, &write.bytes),
             }
@@ -101,7 +101,7 @@ impl Live {
     }
 
     fn holds(&self, rings: &[u8]) -> bool {
-        let mut bytes = [0; PAGE_BYTES];
+        let mut bytes = [0; RING_BYTES];
         self.pages.iter().enumerate().all(|(port, live)| {
             live.read(0, &mut bytes);
             bytes == page(rings, port)

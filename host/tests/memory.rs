@@ -2,7 +2,7 @@
 
 use generate::{Random, UNTOUCHED};
 use kernelharp::layout::{
-    read_u32, slot_at, write_u32, GRANTS_BYTES, PAGE_BYTES, REQ_EVENT, REQ_PROD, RESPONSE_BYTES,
+    read_u32, slot_at, write_u32, GRANTS_BYTES, RING_BYTES, REQ_EVENT, REQ_PROD, RESPONSE_BYTES,
     RINGS_BYTES, RSP_PROD, SLOT_BYTES,
 };
 use kernelharp::words::{DONE_WORDS, TURN_WORDS};
@@ -133,13 +133,13 @@ fn any_word(random: &mut Random) -> u64 {
 
 /// The ring bytes that a call may have written, and no others.
 fn allowed(port: usize, at: usize, responded: bool) -> bool {
-    let in_page = at % PAGE_BYTES;
+    let in_page = at % RING_BYTES;
     if !responded {
         return (REQ_EVENT..REQ_EVENT + 4).contains(&in_page);
     }
     let in_slot = in_page >= slot_at(0) && (in_page - slot_at(0)) % SLOT_BYTES < RESPONSE_BYTES;
     let in_rsp_prod = (RSP_PROD..RSP_PROD + 4).contains(&in_page);
-    at / PAGE_BYTES == port && (in_slot || in_rsp_prod)
+    at / RING_BYTES == port && (in_slot || in_rsp_prod)
 }
 
 fn check_rings(before: &[u8], after: &[u8], port: usize, responded: bool) {

@@ -1,7 +1,7 @@
 //! The replayed list of calls, run through the second program and the archive: their lines are those
 //! that the proved program wrote, answers and changed page bytes alike.
 
-use kernelharp::layout::{GRANTS_BYTES, PAGE_BYTES, PORT_GRANTS, RINGS_BYTES};
+use kernelharp::layout::{GRANTS_BYTES, RING_BYTES, PORT_GRANTS, RINGS_BYTES};
 use kernelharp::Completion;
 use second::{Done, Plan, Refusal, Turned};
 use std::fmt::Write;
@@ -125,7 +125,7 @@ impl Host {
         let mut words = Words(parts);
         match letter {
             "b" => {
-                let at = words.next::<usize>() * PAGE_BYTES + words.next::<usize>();
+                let at = words.next::<usize>() * RING_BYTES + words.next::<usize>();
                 let bytes = words.rest();
                 rings[at..at + bytes.len()].copy_from_slice(&bytes);
                 None

@@ -1,7 +1,7 @@
 //! Which port a turn serves and what an idle one writes, overruns, tags, notifications (sections 4 to 6).
 
 use generate::{done_words, turn_words};
-use kernelharp::layout::{read_u32, PAGE_BYTES, REQ_EVENT, RSP_EVENT, RSP_PROD};
+use kernelharp::layout::{read_u32, RING_BYTES, REQ_EVENT, RSP_EVENT, RSP_PROD};
 use kernelharp::words::{done, kind, turn, TURN_WORDS};
 use second::{Reason, Status, Turned};
 use tests::{usual_sheet, Ask, Bench};
@@ -62,7 +62,7 @@ fn idle_arms_open_ports_only() {
     let mut due = bench.rings.clone();
     assert_eq!(bench.turn(), Turned::Idle);
     due[REQ_EVENT] = 1;
-    due[2 * PAGE_BYTES + REQ_EVENT] = 2;
+    due[2 * RING_BYTES + REQ_EVENT] = 2;
     assert_eq!(bench.rings, due);
     let words = turn_words(&Turned::Overrun { port: 5 });
     assert_eq!((words[turn::KIND], words[turn::PORT]), (kind::OVERRUN, 5));

@@ -31,7 +31,7 @@ static void check_names(void) {
 /* A guest's read of sectors 8 to 15 into frame 9, on port 1. */
 static void publish_read(void) {
     uint8_t *page = rings + 1 * KH_RING_BYTES;
-    uint8_t *slot = page + KH_SLOTS_AT;
+    uint8_t *slot = page + KH_HEADER_BYTES;
     slot[0] = KH_READ;
     slot[1] = 1;
     put(slot + 8, 8, 0x1234);

@@ -54,7 +54,7 @@ static inline void set_index(const host *h, uint32_t port, unsigned field, uint3
 }
 
 static inline uint8_t *slot_in(uint8_t *page, uint32_t index) {
-    return page + KH_SLOTS_AT + KH_SLOT_BYTES * (index % KH_SLOTS);
+    return page + KH_HEADER_BYTES + KH_SLOT_BYTES * (index % KH_SLOTS);
 }
 
 static inline void grant(const host *h, uint32_t port, uint32_t frame, uint8_t value) {

@@ -242,7 +242,7 @@ static void take_over_response(const host *h, uint64_t port) {
     uint32_t k = (uint32_t)port % KH_PORTS;
     uint32_t last = index_at(h, k, KH_RSP_PROD) - 1;
     take_over(h, k, KH_RSP_PROD, 4);
-    take_over(h, k, KH_SLOTS_AT + KH_SLOT_BYTES * (last % KH_SLOTS), KH_RESPONSE_BYTES);
+    take_over(h, k, KH_HEADER_BYTES + KH_SLOT_BYTES * (last % KH_SLOTS), KH_RESPONSE_BYTES);
 }
 
 static void turn_on_any_memory(host *h) {

@@ -36,7 +36,7 @@ AT(blkif_sring_t, req_prod, KH_REQ_PROD);
 AT(blkif_sring_t, req_event, KH_REQ_EVENT);
 AT(blkif_sring_t, rsp_prod, KH_RSP_PROD);
 AT(blkif_sring_t, rsp_event, KH_RSP_EVENT);
-AT(blkif_sring_t, ring, KH_SLOTS_AT);
+AT(blkif_sring_t, ring, KH_HEADER_BYTES);
 SIZE(RING_IDX, 4);
 HOLDS(__CONST_RING_SIZE(blkif, KH_RING_BYTES) == KH_SLOTS);
 
@@ -55,8 +55,8 @@ static void layout_of_xen_headers(host *h) {
     blkif_front_ring_t front;
     FRONT_RING_INIT(&front, (blkif_sring_t *)(void *)h->at[RINGS], KH_RING_BYTES);
     CHECK_EQ(RING_SIZE(&front), KH_SLOTS);
-    CHECK_EQ((uint8_t *)RING_GET_REQUEST(&front, 33) - h->at[RINGS], KH_SLOTS_AT + KH_SLOT_BYTES);
-    CHECK_EQ((uint8_t *)RING_GET_RESPONSE(&front, UINT32_MAX) - h->at[RINGS], KH_SLOTS_AT + 31 * KH_SLOT_BYTES);
+    CHECK_EQ((uint8_t *)RING_GET_REQUEST(&front, 33) - h->at[RINGS], KH_HEADER_BYTES + KH_SLOT_BYTES);
+    CHECK_EQ((uint8_t *)RING_GET_RESPONSE(&front, UINT32_MAX) - h->at[RINGS], KH_HEADER_BYTES + 31 * KH_SLOT_BYTES);
 }
 
 static void layout_protocol_name(host *h) {

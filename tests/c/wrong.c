@@ -33,7 +33,7 @@ static void spoil_response(uint8_t *rings, uint64_t port, unsigned at) {
     uint8_t *page = rings + KH_RING_BYTES * port;
     uint32_t produced;
     memcpy(&produced, page + KH_RSP_PROD, sizeof produced);
-    page[KH_SLOTS_AT + KH_SLOT_BYTES * ((produced - 1) % KH_SLOTS) + at] ^= 1;
+    page[KH_HEADER_BYTES + KH_SLOT_BYTES * ((produced - 1) % KH_SLOTS) + at] ^= 1;
 }
 
 uint32_t __wrap_kh_open(kh_memory *memory, uint32_t port, const uint8_t *sheet, size_t sheet_bytes) {

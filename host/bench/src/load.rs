@@ -1,7 +1,7 @@
 //! What the programs are measured on: full rings of reads.
 
 use kernelharp::layout::{
-    page_mut, slot_at, write_u32, GRANTS_BYTES, HEADER_BYTES, PAGE_BYTES, REQ_PROD, RINGS_BYTES,
+    page_mut, slot_at, write_u32, GRANTS_BYTES, HEADER_BYTES, RING_BYTES, REQ_PROD, RINGS_BYTES,
     RSP_EVENT, SLOTS, SLOT_BYTES,
 };
 
@@ -35,8 +35,8 @@ impl Load {
     }
 
     /// The slots of a full ring page, the header left zero.
-    fn slots(self, port: usize) -> [u8; PAGE_BYTES] {
-        let mut page = [0; PAGE_BYTES];
+    fn slots(self, port: usize) -> [u8; RING_BYTES] {
+        let mut page = [0; RING_BYTES];
         for index in 0..SLOTS {
             let slot = &mut page[slot_at(index as u32)..][..SLOT_BYTES];
             let number = SLOTS * port + index;
@@ -90,7 +90,7 @@ impl Lent {
     pub fn refill(&mut self) {
         let answered = SLOTS as u32 * self.rounds;
         for port in 0..self.load.ports {
-            let full = &self.full.0[PAGE_BYTES * port..][..PAGE_BYTES];
+            let full = &self.full.0[RING_BYTES * port..][..RING_BYTES];
             let page = page_mut(&mut self.rings.0, port);
             page[HEADER_BYTES..].copy_from_slice(&full[HEADER_BYTES..]);
             write_u32(page, REQ_PROD, answered.wrapping_add(SLOTS as u32));

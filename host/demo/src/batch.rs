@@ -5,7 +5,7 @@ use crate::pattern::{Model, SECTOR};
 use crate::profile::Profile;
 use frontend::{discard, segmented, Segment};
 use generate::Random;
-use kernelharp::layout::{MAX_EXTENTS, SLOTS, SLOT_BYTES};
+use kernelharp::layout::{EXTENTS, SLOTS, SLOT_BYTES};
 use kernelharp::{Operation, Status};
 use std::ops::Range;
 
@@ -22,7 +22,7 @@ const NOT_SUPPORTED: i16 = Status::NotSupported as i16;
 /// What a frame holds before the host reads from the disk into it.
 const FILLER: [u8; SECTOR] = [0xA5; SECTOR];
 /// The most sectors of one request.
-pub const MOST_SECTORS: u64 = (MAX_EXTENTS * FRAME_SECTORS) as u64;
+pub const MOST_SECTORS: u64 = (EXTENTS * FRAME_SECTORS) as u64;
 
 /// A request and what is due for it.
 pub struct Job {
@@ -129,8 +129,8 @@ impl Batch<'_> {
         } else {
             READ_WRITE_FRAMES
         };
-        let first = granted + self.jobs.len() * MAX_EXTENTS;
-        first as u32..(first + MAX_EXTENTS) as u32
+        let first = granted + self.jobs.len() * EXTENTS;
+        first as u32..(first + EXTENTS) as u32
     }
 
     fn id(&mut self) -> u64 {
@@ -276,7 +276,7 @@ impl Batch<'_> {
 
     /// Segments of any shape whose sectors together are a multiple of the disk's unit.
     fn any_segments(&mut self, operation: u8) -> Vec<Segment> {
-        let n = 1 + self.random.index(MAX_EXTENTS);
+        let n = 1 + self.random.index(EXTENTS);
         let mut segments = Vec::new();
         for frame in self.next_frames(operation).take(n) {
             let first = self.random.index(FRAME_SECTORS);

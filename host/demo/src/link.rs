@@ -3,7 +3,7 @@
 
 use crate::pattern::SECTOR;
 use frontend::{EventChannel, GuestPage};
-use kernelharp::layout::{MAX_EXTENTS, PORT_GRANTS, SLOTS};
+use kernelharp::layout::{EXTENTS, PORT_GRANTS, SLOTS};
 use std::sync::atomic::{AtomicU64, Ordering};
 use std::sync::{Mutex, PoisonError};
 use std::time::Duration;
@@ -13,7 +13,7 @@ pub const BOUND: Duration = Duration::from_secs(60);
 
 /// Frames that the host may read and write, eleven to a slot of the ring. They are followed by as
 /// many that it may only read.
-pub const READ_WRITE_FRAMES: usize = SLOTS * MAX_EXTENTS;
+pub const READ_WRITE_FRAMES: usize = SLOTS * EXTENTS;
 const FRAMES: usize = 2 * READ_WRITE_FRAMES;
 /// A frame that is not granted.
 pub const NO_FRAME: u32 = FRAMES as u32;

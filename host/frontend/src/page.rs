@@ -1,25 +1,25 @@
 //! A ring page that two threads share.
 
-use kernelharp::layout::{PAGE_BYTES, REQ_EVENT, REQ_PROD, RSP_EVENT, RSP_PROD};
-use kernelharp::live::{Mapping, SharedPage, PAGE_WORDS};
+use kernelharp::layout::{RING_BYTES, REQ_EVENT, REQ_PROD, RSP_EVENT, RSP_PROD};
+use kernelharp::live::{Mapping, SharedPage, RING_WORDS};
 use std::sync::atomic::{AtomicU32, Ordering};
 
 /// The bytes of a word.
-const WORD: usize = PAGE_BYTES / PAGE_WORDS;
+const WORD: usize = RING_BYTES / RING_WORDS;
 
 /// A guest's ring page, read and written by words. It lives as long as the program: a guest's
 /// memory does not go away because a backend lets go of it.
 #[repr(C, align(4096))]
 #[derive(Debug)]
 pub struct GuestPage {
-    words: [AtomicU32; PAGE_WORDS],
+    words: [AtomicU32; RING_WORDS],
 }
 
 impl GuestPage {
     /// A page as a frontend hands it over: indices 0, and both sides ask for the first event
     /// (SHARED_RING_INIT).
     pub fn new() -> &'static GuestPage {
-        let words = [const { AtomicU32::new(0) }; PAGE_WORDS];
+        let words = [const { AtomicU32::new(0) }; RING_WORDS];
         let page: &'static GuestPage = Box::leak(Box::new(GuestPage { words }));
         page.init();
         page

@@ -1,6 +1,6 @@
 //! Requests as they lie in a slot, and responses.
 
-use kernelharp::layout::{read_u64, MAX_EXTENTS, RESPONSE_BYTES, SLOT_BYTES};
+use kernelharp::layout::{read_u64, EXTENTS, RESPONSE_BYTES, SLOT_BYTES};
 use kernelharp::Operation;
 
 /// One segment of a request.
@@ -16,7 +16,7 @@ pub struct Segment {
 
 /// The slot of a read, write, barrier or flush of at most eleven segments.
 pub fn segmented(operation: u8, id: u64, start: u64, segments: &[Segment]) -> [u8; SLOT_BYTES] {
-    assert!(segments.len() <= MAX_EXTENTS, "a slot has room for eleven");
+    assert!(segments.len() <= EXTENTS, "a slot has room for eleven");
     let mut slot = head(operation, segments.len() as u8, id, start);
     for (place, segment) in slot[24..].chunks_exact_mut(8).zip(segments) {
         place[..4].copy_from_slice(&segment.frame.to_le_bytes());

@@ -10,7 +10,7 @@ use self::sheets::sheet_fault;
 use crate::{Buffer, Write};
 use history::{Event, History, State};
 use kernelharp::layout::{
-    page, read_u32, HEADER_BYTES, PAGE_BYTES, PORTS, REQ_EVENT, REQ_PROD, RSP_PROD, SLOTS,
+    page, read_u32, HEADER_BYTES, RING_BYTES, PORTS, REQ_EVENT, REQ_PROD, RSP_PROD, SLOTS,
     SLOT_BYTES,
 };
 use second::{read_sheet, Disk, Refusal};
@@ -118,7 +118,7 @@ impl Census {
     pub fn note_writes(&mut self, history: &History, rings: &[u8], writes: &[Write]) {
         for write in writes.iter().filter(|write| write.buffer == Buffer::Rings) {
             self.tick("guest wrote between calls");
-            let (port, at) = (write.at / PAGE_BYTES, write.at % PAGE_BYTES);
+            let (port, at) = (write.at / RING_BYTES, write.at % RING_BYTES);
             self.tick_if(at == REQ_EVENT, "guest wrote req_event");
             self.tick_if(at == RSP_PROD, "guest wrote rsp_prod");
             if at < HEADER_BYTES || history.state(port) != State::Open {

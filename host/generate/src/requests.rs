@@ -1,7 +1,7 @@
 //! Guest requests: sound ones, and ones at fault at a check that is aimed at.
 
 use crate::Random;
-use kernelharp::layout::{MAX_EXTENTS, SLOT_BYTES};
+use kernelharp::layout::{EXTENTS, SLOT_BYTES};
 use second::{Disk, Operation};
 
 const READ: u8 = Operation::Read as u8;
@@ -192,9 +192,9 @@ fn place(random: &mut Random, count: u64, disk: &Disk) -> u64 {
 
 fn segments(random: &mut Random, operation: u8, disk: &Disk, grants: &[u8]) -> Vec<Segment> {
     let amount = match random.index(8) {
-        0 | 1 => MAX_EXTENTS,
+        0 | 1 => EXTENTS,
         2..=4 => 1,
-        _ => 1 + random.index(MAX_EXTENTS),
+        _ => 1 + random.index(EXTENTS),
     };
     let mut lengths: Vec<u64> = (0..amount).map(|_| 1 + random.below(8)).collect();
     // Only the total has to be a multiple of the unit: the last length makes it one.

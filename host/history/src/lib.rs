@@ -16,7 +16,7 @@ pub use event::Event;
 
 use books::Books;
 use page::{
-    kind, page, turn, u32_at, DONE_PORT, DONE_WORDS, GRANTS_BYTES, PAGE_BYTES, PORTS, REQ_EVENT,
+    kind, page, turn, u32_at, DONE_PORT, DONE_WORDS, GRANTS_BYTES, RING_BYTES, PORTS, REQ_EVENT,
     REQ_PROD, RINGS_BYTES, SLOTS, TURN_WORDS,
 };
 use refusal::{IN_FLIGHT, IS_CLOSED, NONE, NOT_BUSY, NOT_CLOSED, NO_PORT, WRONG_LENGTH};
@@ -208,7 +208,7 @@ impl History {
             return Err(format!("idle, but port {port} has something to serve"));
         }
         for (number, port) in self.ports.iter().enumerate() {
-            let mut due = [0; PAGE_BYTES];
+            let mut due = [0; RING_BYTES];
             due.copy_from_slice(page(lent, number));
             if port.state == State::Open {
                 let event = port.books.taken_index().wrapping_add(1);

@@ -1,8 +1,8 @@
 //! Where the checker looks: places in pages, slots and answers, and numbers in bytes.
 
 pub const PORTS: usize = 8;
-pub const PAGE_BYTES: usize = 4096;
-pub const RINGS_BYTES: usize = PORTS * PAGE_BYTES;
+pub const RING_BYTES: usize = 4096;
+pub const RINGS_BYTES: usize = PORTS * RING_BYTES;
 pub const GRANTS_BYTES: usize = PORTS * 1024;
 pub const REQ_PROD: usize = 0;
 pub const REQ_EVENT: usize = 4;
@@ -32,7 +32,7 @@ pub const DONE_PORT: usize = 0;
 
 /// A port's page of the rings.
 pub fn page(rings: &[u8], port: usize) -> &[u8] {
-    let mut pages = rings.chunks_exact(PAGE_BYTES);
+    let mut pages = rings.chunks_exact(RING_BYTES);
     pages.nth(port).expect("a page a port")
 }
 

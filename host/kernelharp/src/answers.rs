@@ -1,6 +1,6 @@
 //! What the calls answer, as types: turns with their plans, and completions.
 
-use crate::layout::MAX_EXTENTS;
+use crate::layout::EXTENTS;
 use crate::names::{Name, Port, Serial, Tag};
 use crate::terms::{Operation, Reason, Status};
 use crate::words::{done, extent, kind, turn, DoneWords, TurnWords};
@@ -44,7 +44,7 @@ pub struct Plan {
     pub count: u64,
     /// A discard that must leave nothing to be read.
     pub secure: bool,
-    extents: [Extent; MAX_EXTENTS],
+    extents: [Extent; EXTENTS],
     used: usize,
 }
 
@@ -66,7 +66,7 @@ impl Plan {
 
     fn from_words(words: &TurnWords) -> Option<Plan> {
         let used = usize::try_from(words[turn::EXTENT_COUNT]).ok()?;
-        let mut extents = [Extent::default(); MAX_EXTENTS];
+        let mut extents = [Extent::default(); EXTENTS];
         let filled = words[turn::EXTENTS..].chunks(extent::WORDS);
         for (extent, words) in extents.get_mut(..used)?.iter_mut().zip(filled) {
             *extent = Extent::from_words(words)?;

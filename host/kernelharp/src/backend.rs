@@ -2,7 +2,7 @@
 
 use crate::answers::{Done, Turn};
 use crate::ffi::{ArchiveMismatch, Completion, Memory};
-use crate::layout::{page, page_mut, GRANTS_BYTES, PAGE_BYTES, PORT_GRANTS, RINGS_BYTES};
+use crate::layout::{page, page_mut, GRANTS_BYTES, RING_BYTES, PORT_GRANTS, RINGS_BYTES};
 use crate::names::{Name, Port};
 use crate::terms::Refusal;
 use crate::words::{DONE_WORDS, TURN_WORDS};
@@ -41,14 +41,14 @@ impl Backend {
         })
     }
 
-    /// A port's ring page, [`PAGE_BYTES`] long.
-    pub fn page(&self, port: Port) -> &[u8; PAGE_BYTES] {
+    /// A port's ring page, [`RING_BYTES`] long.
+    pub fn page(&self, port: Port) -> &[u8; RING_BYTES] {
         let page = page(&self.rings[..], port.index());
         page.try_into().expect("a part of that length")
     }
 
     /// A port's ring page, to be written.
-    pub fn page_mut(&mut self, port: Port) -> &mut [u8; PAGE_BYTES] {
+    pub fn page_mut(&mut self, port: Port) -> &mut [u8; RING_BYTES] {
         let page = page_mut(&mut self.rings[..], port.index());
         page.try_into().expect("a part of that length")
     }

@@ -1,7 +1,7 @@
 //! All that needs `unsafe`: the archive's C functions over backend memory, and the words of a page
 //! that a guest writes at the same time.
 
-use crate::layout::PAGE_BYTES;
+use crate::layout::RING_BYTES;
 use crate::names::Name;
 use crate::words::{DoneWords, TurnWords};
 use std::fmt;
@@ -186,7 +186,7 @@ fn check_archive(version: u32, memory_words: u32) -> Result<(), ArchiveMismatch>
 /// The bytes of a word of a page.
 pub(crate) const WORD_BYTES: usize = 4;
 /// The words of a page.
-pub const PAGE_WORDS: usize = PAGE_BYTES / WORD_BYTES;
+pub const RING_WORDS: usize = RING_BYTES / WORD_BYTES;
 
 /// A guest's ring page where this program has it mapped.
 ///
@@ -216,7 +216,7 @@ impl Mapping {
     }
 
     /// A page of this program's own, whose guest is a thread of it.
-    pub fn of_atomics(page: &'static [AtomicU32; PAGE_WORDS]) -> Mapping {
+    pub fn of_atomics(page: &'static [AtomicU32; RING_WORDS]) -> Mapping {
         // SAFETY: the page is never freed, has as many words and their alignment, and whoever else
         // reaches it does so by atomics, which may be written through shared references.
         unsafe { Mapping::new(NonNull::from(page).cast()) }
@@ -236,7 +236,7 @@ impl Mapping {
 
     fn place(&self, at: usize) -> *mut u32 {
         let word = at / WORD_BYTES;
-        assert!(at % WORD_BYTES == 0 && word < PAGE_WORDS, "a word at {at}");
+        assert!(at % WORD_BYTES == 0 && word < RING_WORDS, "a word at {at}");
         self.page.as_ptr().wrapping_add(word)
     }
 }

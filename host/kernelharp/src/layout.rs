@@ -3,9 +3,9 @@
 /// Ports of a backend.
 pub const PORTS: usize = 8;
 /// A port's ring page.
-pub const PAGE_BYTES: usize = 4096;
+pub const RING_BYTES: usize = 4096;
 /// The ring pages of all ports.
-pub const RINGS_BYTES: usize = PORTS * PAGE_BYTES;
+pub const RINGS_BYTES: usize = PORTS * RING_BYTES;
 /// A port's grants.
 pub const PORT_GRANTS: usize = 1024;
 /// The grants of all ports.
@@ -29,7 +29,7 @@ pub const HEADER_BYTES: usize = 64;
 /// A response.
 pub const RESPONSE_BYTES: usize = 16;
 /// The most segments a request holds, and so the most extents of a plan.
-pub const MAX_EXTENTS: usize = 11;
+pub const EXTENTS: usize = 11;
 
 /// Reads a little-endian 32-bit number.
 pub fn read_u32(bytes: &[u8], at: usize) -> u32 {
@@ -52,12 +52,12 @@ pub fn write_u32(bytes: &mut [u8], at: usize, value: u32) {
 
 /// A port's page of the rings (rule 1.3).
 pub fn page(rings: &[u8], port: usize) -> &[u8] {
-    &rings[PAGE_BYTES * port..][..PAGE_BYTES]
+    &rings[RING_BYTES * port..][..RING_BYTES]
 }
 
 /// The same, to be written.
 pub fn page_mut(rings: &mut [u8], port: usize) -> &mut [u8] {
-    &mut rings[PAGE_BYTES * port..][..PAGE_BYTES]
+    &mut rings[RING_BYTES * port..][..RING_BYTES]
 }
 
 /// Where the slot of an index begins (rule 2.4).

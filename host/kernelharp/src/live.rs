@@ -19,6 +19,6 @@ mod page;
 #[cfg(test)]
 mod tests;
 
-pub use crate::ffi::{Mapping, PAGE_WORDS};
+pub use crate::ffi::{Mapping, RING_WORDS};
 pub use backend::LiveBackend;
 pub use page::SharedPage;

@@ -1,7 +1,7 @@
 //! The checks 21 to 29 (section 8), and what a request that passes asks for.
 
 use crate::answers::Extent;
-use crate::layout::{read_u64, MAX_EXTENTS};
+use crate::layout::{read_u64, EXTENTS};
 use crate::request::{Request, Segment};
 use crate::sheet::Disk;
 use crate::terms::{Operation, Reason};
@@ -123,8 +123,8 @@ impl<'a> Case<'a> {
     fn wrong_amount(&self) -> bool {
         let n = usize::from(self.request.count_or_flag);
         match self.operation {
-            Operation::Read | Operation::Write => !(1..=MAX_EXTENTS).contains(&n),
-            Operation::Barrier => n > MAX_EXTENTS,
+            Operation::Read | Operation::Write => !(1..=EXTENTS).contains(&n),
+            Operation::Barrier => n > EXTENTS,
             Operation::Flush => n != 0,
             Operation::Discard => self.discard_count() == 0,
         }

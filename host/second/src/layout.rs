@@ -3,7 +3,7 @@
 /// Rule 1.1.
 pub const PORTS: usize = 8;
 /// Rule 1.3: a port's share of the rings, and all of them.
-pub const PAGE_BYTES: usize = 4096;
+pub const RING_BYTES: usize = 4096;
 pub const RINGS_BYTES: usize = 32_768;
 /// Rule 1.4: a port's share of the grants, and all of them.
 pub const PORT_GRANTS: usize = 1024;
@@ -21,7 +21,7 @@ pub const SLOT_BYTES: usize = 112;
 /// Rule 2.10.
 pub const RESPONSE_BYTES: usize = 16;
 /// Rule 2.16.
-pub const MAX_EXTENTS: usize = 11;
+pub const EXTENTS: usize = 11;
 
 /// Rule 2.4.
 pub fn slot_at(index: u32) -> usize {
@@ -30,12 +30,12 @@ pub fn slot_at(index: u32) -> usize {
 
 /// Rule 1.3.
 pub fn page(rings: &[u8], port: usize) -> &[u8] {
-    &rings[PAGE_BYTES * port..PAGE_BYTES * (port + 1)]
+    &rings[RING_BYTES * port..RING_BYTES * (port + 1)]
 }
 
 /// Rule 1.3.
 pub fn page_mut(rings: &mut [u8], port: usize) -> &mut [u8] {
-    &mut rings[PAGE_BYTES * port..PAGE_BYTES * (port + 1)]
+    &mut rings[RING_BYTES * port..RING_BYTES * (port + 1)]
 }
 
 pub fn read_u32(bytes: &[u8], at: usize) -> u32 {

@@ -1,6 +1,6 @@
 //! A request as it lies in a slot (rules 2.5 to 2.9), copied once.
 
-use crate::layout::{read_u32, read_u64, slot_at, MAX_EXTENTS, SLOT_BYTES};
+use crate::layout::{read_u32, read_u64, slot_at, EXTENTS, SLOT_BYTES};
 
 /// One segment of a request (rule 2.6).
 pub struct Segment {
@@ -37,7 +37,7 @@ pub struct Request {
     pub id: u64,
     pub start: u64,
     /// Segments, or a discard's sector count in the first 8 bytes.
-    pub body: [u8; 8 * MAX_EXTENTS],
+    pub body: [u8; 8 * EXTENTS],
 }
 
 impl Request {
@@ -46,7 +46,7 @@ impl Request {
         let at = slot_at(index);
         let mut slot = [0; SLOT_BYTES];
         slot.copy_from_slice(&page[at..at + SLOT_BYTES]);
-        let mut body = [0; 8 * MAX_EXTENTS];
+        let mut body = [0; 8 * EXTENTS];
         body.copy_from_slice(&slot[24..]);
         Request {
             operation: slot[0],

@@ -5,7 +5,7 @@ use crate::requests::any_request;
 use crate::{Buffer, World, Write};
 use history::State;
 use kernelharp::layout::{
-    page, read_u32, slot_at, GRANTS_BYTES, HEADER_BYTES, PAGE_BYTES, PORTS, PORT_GRANTS, REQ_EVENT,
+    page, read_u32, slot_at, GRANTS_BYTES, HEADER_BYTES, RING_BYTES, PORTS, PORT_GRANTS, REQ_EVENT,
     REQ_PROD, RSP_EVENT, RSP_PROD, SLOTS,
 };
 
@@ -145,17 +145,17 @@ impl Generator {
             0 => slot_at(self.random.word() as u32),
             1 => self.random.pick(&[REQ_EVENT, RSP_PROD, RSP_EVENT, 16]),
             2 => slot_at(self.guests[port].taken.wrapping_sub(1)),
-            _ => HEADER_BYTES + self.random.index(PAGE_BYTES - HEADER_BYTES),
+            _ => HEADER_BYTES + self.random.index(RING_BYTES - HEADER_BYTES),
         };
         let length = if at < HEADER_BYTES { 4 } else { 24 };
-        let mut bytes = vec![0; length.min(PAGE_BYTES - at)];
+        let mut bytes = vec![0; length.min(RING_BYTES - at)];
         self.random.fill(&mut bytes);
         write_page(writes, port, at, &bytes);
     }
 
     /// Random bytes in all slots at once, and as many requests as there is room for.
     fn flood(&mut self, port: usize, writes: &mut Vec<Write>) {
-        let mut slots = [0; PAGE_BYTES - HEADER_BYTES];
+        let mut slots = [0; RING_BYTES - HEADER_BYTES];
         self.random.fill(&mut slots);
         write_page(writes, port, HEADER_BYTES, &slots);
         let guest = &mut self.guests[port];
@@ -166,13 +166,13 @@ impl Generator {
 }
 
 fn touches_page(write: &Write, port: usize) -> bool {
-    write.buffer == Buffer::Rings && write.at / PAGE_BYTES == port
+    write.buffer == Buffer::Rings && write.at / RING_BYTES == port
 }
 
 fn write_page(writes: &mut Vec<Write>, port: usize, at: usize, bytes: &[u8]) {
     writes.push(Write {
         buffer: Buffer::Rings,
-        at: PAGE_BYTES * port + at,
+        at: RING_BYTES * port + at,
         bytes: bytes.to_vec(),
     });
 }

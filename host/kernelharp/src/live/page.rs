@@ -2,7 +2,7 @@
 
 use crate::ffi::{Mapping, WORD_BYTES};
 use crate::layout::{
-    read_u32, slot_at, write_u32, PAGE_BYTES, REQ_EVENT, REQ_PROD, RESPONSE_BYTES, RSP_EVENT,
+    read_u32, slot_at, write_u32, RING_BYTES, REQ_EVENT, REQ_PROD, RESPONSE_BYTES, RSP_EVENT,
     RSP_PROD, SLOTS, SLOT_BYTES,
 };
 use std::sync::atomic::{fence, Ordering};
@@ -43,7 +43,7 @@ impl SharedPage {
 
     /// Counts from 0 again, for a port opened anew. Nothing of an earlier opening stays in the private
     /// page: a turn before the first copy would serve it.
-    pub fn restart(&mut self, private: &mut [u8; PAGE_BYTES]) {
+    pub fn restart(&mut self, private: &mut [u8; RING_BYTES]) {
         self.req_cons = 0;
         self.rsp_prod_pvt = 0;
         self.copied = 0;
@@ -53,7 +53,7 @@ impl SharedPage {
 
     /// Before a turn: req_prod, the requests not yet copied, and rsp_event. A broken port is served
     /// no more, so nothing is read of its page.
-    pub fn copy_in(&mut self, private: &mut [u8; PAGE_BYTES]) {
+    pub fn copy_in(&mut self, private: &mut [u8; RING_BYTES]) {
         if self.broken {
             return;
         }
@@ -66,7 +66,7 @@ impl SharedPage {
     }
 
     /// Before a completion: rsp_event, the one guest word that it reads.
-    pub fn copy_rsp_event_in(&self, private: &mut [u8; PAGE_BYTES]) {
+    pub fn copy_rsp_event_in(&self, private: &mut [u8; RING_BYTES]) {
         write_u32(private, RSP_EVENT, self.load(RSP_EVENT));
     }
 
@@ -82,7 +82,7 @@ impl SharedPage {
 
     /// After an idle turn: req_event, which the turn wrote for open ports alone. The fence and the
     /// second turn that follow are for all ports at once, so they are the caller's.
-    pub fn copy_req_event_out(&self, private: &[u8; PAGE_BYTES]) {
+    pub fn copy_req_event_out(&self, private: &[u8; RING_BYTES]) {
         if !self.broken {
             self.copy_word_out(REQ_EVENT, private);
         }
@@ -91,7 +91,7 @@ impl SharedPage {
     /// After a call that gave a response (a completion, or a turn that answered): the response, then
     /// rsp_prod. Says whether the guest is to be notified, with what the call said about it.
     #[must_use = "a guest that is not notified may sleep for ever"]
-    pub fn copy_response_out(&mut self, private: &[u8; PAGE_BYTES], call_said: bool) -> bool {
+    pub fn copy_response_out(&mut self, private: &[u8; RING_BYTES], call_said: bool) -> bool {
         let old = self.rsp_prod_pvt;
         let new = old.wrapping_add(1);
         for at in words_of(slot_at(old), RESPONSE_BYTES) {
@@ -111,7 +111,7 @@ impl SharedPage {
     /// The requests between the last one copied and req_prod. Beyond the ring there are none: the
     /// turn finds the overrun by req_prod alone, and should req_prod come back before that turn, what
     /// then waits is copied anew.
-    fn copy_requests_in(&mut self, req_prod: u32, private: &mut [u8; PAGE_BYTES]) {
+    fn copy_requests_in(&mut self, req_prod: u32, private: &mut [u8; RING_BYTES]) {
         let in_flight = self.req_cons.wrapping_sub(self.rsp_prod_pvt);
         let waiting = req_prod.wrapping_sub(self.req_cons);
         if waiting > (SLOTS as u32).saturating_sub(in_flight) {
@@ -130,7 +130,7 @@ impl SharedPage {
     }
 
     /// Copies one word of the private page out.
-    fn copy_word_out(&self, at: usize, private: &[u8; PAGE_BYTES]) {
+    fn copy_word_out(&self, at: usize, private: &[u8; RING_BYTES]) {
         self.page.store(at, read_u32(private, at).to_le());
     }
 

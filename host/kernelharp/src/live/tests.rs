@@ -1,10 +1,10 @@
 //! Plain memory stands in for a guest's page; the guest's part is played between the calls, or
 //! between a call's copying in and out.
 
-use super::{LiveBackend, Mapping, SharedPage, PAGE_WORDS};
+use super::{LiveBackend, Mapping, SharedPage, RING_WORDS};
 use crate::answers::{Plan, Turn};
 use crate::layout::{
-    read_u32, slot_at, write_u32, PAGE_BYTES, REQ_EVENT, REQ_PROD, RESPONSE_BYTES, RSP_EVENT,
+    read_u32, slot_at, write_u32, RING_BYTES, REQ_EVENT, REQ_PROD, RESPONSE_BYTES, RSP_EVENT,
     RSP_PROD, SLOT_BYTES,
 };
 use crate::names::{Name, Port, Serial, Tag};
@@ -19,7 +19,7 @@ const UNKNOWN: u8 = 9;
 
 /// A guest with its page.
 struct Guest {
-    page: &'static [AtomicU32; PAGE_WORDS],
+    page: &'static [AtomicU32; RING_WORDS],
 }
 
 impl Guest {
@@ -77,7 +77,7 @@ impl Guest {
     /// The bytes that differ from earlier ones.
     fn changed(&self, before: &[u8]) -> Vec<usize> {
         let now = self.bytes();
-        (0..PAGE_BYTES)
+        (0..RING_BYTES)
             .filter(|&at| now[at] != before[at])
             .collect()
     }
@@ -105,7 +105,7 @@ fn started(turn: Turn) -> Plan {
 fn only_new_requests_and_two_indices_are_copied_in() {
     let guest = Guest::new();
     let mut shared = guest.share();
-    let mut private = [0; PAGE_BYTES];
+    let mut private = [0; RING_BYTES];
     guest.write(slot_at(0), &[7; SLOT_BYTES]);
     guest.write(slot_at(1), &[8; SLOT_BYTES]);
     guest.set(REQ_PROD, 2);
@@ -113,7 +113,7 @@ fn only_new_requests_and_two_indices_are_copied_in() {
     guest.set(RSP_PROD, 66);
     guest.set(RSP_EVENT, 77);
     shared.copy_in(&mut private);
-    let mut due = [0; PAGE_BYTES];
+    let mut due = [0; RING_BYTES];
     write_u32(&mut due, REQ_PROD, 2);
     write_u32(&mut due, RSP_EVENT, 77);
     due[slot_at(0)..][..SLOT_BYTES].fill(7);
@@ -125,7 +125,7 @@ fn only_new_requests_and_two_indices_are_copied_in() {
 fn a_waiting_request_is_not_copied_again() {
     let guest = Guest::new();
     let mut shared = guest.share();
-    let mut private = [0; PAGE_BYTES];
+    let mut private = [0; RING_BYTES];
     guest.post(0, 1);
     guest.post(1, 1);
     shared.copy_in(&mut private);
@@ -140,7 +140,7 @@ fn a_waiting_request_is_not_copied_again() {
 fn a_req_prod_moved_back_takes_its_requests_back() {
     let guest = Guest::new();
     let mut shared = guest.share();
-    let mut private = [0; PAGE_BYTES];
+    let mut private = [0; RING_BYTES];
     for index in 0..3 {
         guest.post(index, 1);
     }
@@ -160,7 +160,7 @@ fn a_req_prod_moved_back_takes_its_requests_back() {
 fn an_overrun_drawn_back_leaves_nothing_copied() {
     let guest = Guest::new();
     let mut shared = guest.share();
-    let mut private = [0; PAGE_BYTES];
+    let mut private = [0; RING_BYTES];
     for index in 0..2 {
         guest.post(index, 1);
     }
@@ -204,7 +204,7 @@ fn an_overrun_drawn_back_serves_the_page_as_it_is() {
 fn no_request_is_copied_beyond_the_ring() {
     for (req_prod, copied) in [(32, true), (33, false), (u32::MAX, false)] {
         let guest = Guest::new();
-        let mut private = [0; PAGE_BYTES];
+        let mut private = [0; RING_BYTES];
         guest.set(REQ_PROD, req_prod);
         guest.share().copy_in(&mut private);
         let slots = &private[slot_at(0)..slot_at(31) + SLOT_BYTES];
@@ -217,7 +217,7 @@ fn no_request_is_copied_beyond_the_ring() {
 fn a_response_leaves_what_the_guest_wrote_meanwhile() {
     let guest = Guest::new();
     let mut shared = guest.share();
-    let mut private = [0; PAGE_BYTES];
+    let mut private = [0; RING_BYTES];
     guest.post(0, UNKNOWN);
     shared.copy_in(&mut private);
     // The call's part: the response in slot 0, and rsp_prod.
@@ -251,7 +251,7 @@ fn rsp_event_is_looked_at_again() {
         let mut shared = guest.share();
         // The guest goes to sleep after the call has looked.
         guest.set(RSP_EVENT, event);
-        let told = shared.copy_response_out(&[0; PAGE_BYTES], said);
+        let told = shared.copy_response_out(&[0; RING_BYTES], said);
         assert_eq!(told, due, "rsp_event {event}, the call said {said}");
     }
 }
