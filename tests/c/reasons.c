@@ -177,6 +177,9 @@ static void reason_28_past_end(host *h) {
     CHECK_EQ(words(h, TURNED)[KH_TURN_START], 0);
     BEGIN(h, "1:w 6:4096 7:0");
     CHECK_EQ(JUDGE(h, transfer(KH_READ, 1, 4)), 28); /* before 29 */
+    BEGIN(h, "1:w 6:4096 7:2008"); /* sectors of 512 bytes all the same */
+    CHECK_EQ(JUDGE(h, transfer(KH_READ, 1, 2000)), 0);
+    CHECK_EQ(JUDGE(h, transfer(KH_READ, 1, 2008)), 28);
 }
 
 static void reason_28_at_2_to_the_64(host *h) {

@@ -1,5 +1,5 @@
 -- What the functions of the C interface promise, for all that C can hand in: the number returned, every byte and word left, and the memory after. All of it is
--- what the rules make due on what the memory says (rules 14.1 to 14.9): the interface adds only numbers for answers, and places for their words.
+-- what the rules make due on what the memory says (rules 14.1 to 14.8, 14.11 and 14.13): the interface adds only numbers for answers, and places for their words.
 use mathlib.Core.Path.{_≡_}
 use mathlib.Core.List.{List, []}
 use Prim.Native.Nat.{ℕ}
@@ -12,12 +12,12 @@ use Rattle.model.specs.Rules.{effectDue}
 use Rattle.model.specs.Turn.{portId, tagId, serialOf}
 use Rattle.memory.specs.Backend.{backendOf, Becomes}
 
--- the effect that the rules make due
+-- the effect that the rules make due (rule 11.1)
 abbrev pub dueOn : List ℕ → (c : Call) → Effect c
 dueOn memory c = effectDue (viewOf (backendOf memory)) c
 
--- Of every function, and all that there is to kh_open and kh_close: the number is 0, or that of the refusal; the memory is the one due, word for word; and where
--- nothing was done, by a refusal or an idle turn, no word of it changed.
+-- Of every function, and all that there is to kh_open and kh_close: the number is 0, or that of the refusal (rule 14.5); the memory is the one due, word for word
+-- (rule 14.11); and where nothing was done, by a refusal or an idle turn, no word of it changed (rules 14.6 and 14.13).
 pub record Returned (memory : List ℕ) (c : Call) (n : ℕ) (left : List ℕ) : Type 0 where
   pub number : n ≡ refusal c (dueOn memory c)
   pub becomes : Becomes memory (afterCall (backendOf memory) c) left
@@ -25,11 +25,11 @@ pub record Returned (memory : List ℕ) (c : Call) (n : ℕ) (left : List ℕ) :
 
 -- ---- kh_turn
 
--- the turn that is lent such an answer
+-- the turn that is lent such an answer (rules 5.33 and 14.7)
 abbrev pub turnCall : List ℕ → List ℕ → List ℕ → Call
 turnCall rings grants answer = Turn rings grants (extentsIn answer)
 
--- the rings and the answer are those due
+-- the rings and the answer are those due (rules 14.6 and 14.7)
 pub record TurnReturned (memory rings grants answer : List ℕ) (n : ℕ) (pages words left : List ℕ) : Type 0 where
   pub returned : Returned memory (turnCall rings grants answer) n left
   pub ringsDue : pages ≡ dueOn memory (turnCall rings grants answer) .rings
@@ -38,10 +38,11 @@ pub record TurnReturned (memory rings grants answer : List ℕ) (n : ℕ) (pages
 
 -- ---- kh_complete
 
+-- the completion that these numbers name (rule 6.8)
 abbrev pub completeCall : List ℕ → ℕ → ℕ → ℕ → ℤ → Call
 completeCall rings port tag serial result = Complete rings (portId port) (tagId tag) (serialOf serial) result
 
--- the rings and the answer are those due
+-- the rings and the answer are those due (rules 14.6 and 14.8)
 pub record CompleteReturned (memory rings : List ℕ) (port tag serial : ℕ) (result : ℤ) (answer : List ℕ) (n : ℕ) (pages words left : List ℕ) : Type 0 where
   pub returned : Returned memory (completeCall rings port tag serial result) n left
   pub ringsDue : pages ≡ dueOn memory (completeCall rings port tag serial result) .rings

@@ -29,15 +29,15 @@ rowOf (suc n) f = rowOf n f ++ f n
 unfoldable pub portBlock : Backend → ℕ → List ℕ
 portBlock b k = wordsOf (b .port k) ++ rowOf tags (λ t. tagWordsOf (b .tag k t))
 
--- every word of a backend, in its place: the ports', then the pointer
+-- every word of a backend, in its place: the ports', then the pointer (rule 14.11)
 unfoldable pub memoryOf : Backend → List ℕ
 memoryOf b = rowOf ports (portBlock b) ++ b .pointer ∷ []
 
--- memory that is word for word what its backend is written as: no bit is there that nobody reads
+-- memory that is word for word what its backend is written as: no bit is there that nobody reads (rule 14.11)
 abbrev pub Exact : List ℕ → Type 0
 Exact m = m ≡ memoryOf (backendOf m)
 
--- A change of memory: the words say this backend now; and where they were exact, each of them is the one that the backend is written as.
+-- A change of memory: the words say this backend now; and where they were exact, each of them is the one that the backend is written as (rule 14.11).
 pub record Becomes (before : List ℕ) (b : Backend) (left : List ℕ) : Type 0 where
   pub backend : backendOf left ≡ b
   pub words : Exact before → left ≡ memoryOf b
@@ -55,7 +55,7 @@ withProduced p v = record { state = p .state; params = p .params; consumed = p .
 abbrev pub withBusy : Port → ℕ → Port
 withBusy p v = record { state = p .state; params = p .params; consumed = p .consumed; produced = p .produced; busy = v }
 
--- a closed port and a free tag keep zeros alone, in the words themselves (rules 4.5 and 4.6)
+-- a closed port and a free tag keep zeros alone, in the words themselves (rules 4.5, 4.6 and 14.12)
 pub record Clean (m : List ℕ) : Type 0 where
   pub closed : (k q : ℕ) → k < ports → q < stride → backendOf m .port k .state ≡ State.Closed → word m k q ≡ 0
   pub free : (k t q : ℕ) → k < ports → t < tags → q < tagWords → isBusy (backendOf m .port k .busy) t ≡ false → word m k (tagPlace t + q) ≡ 0

@@ -10,9 +10,9 @@ use Rattle.model.specs.Rules.{effectDue}
 use Rattle.memory.specs.Backend.{backendOf, Becomes}
 
 pub record Promised (before : List ℕ) (c : Call) (e : Effect c) (left : List ℕ) : Type 0 where
-  -- the answer, and every byte of what was lent
+  -- the answer, and every byte of what was lent (rule 11.1)
   pub effect : e ≡ effectDue (viewOf (backendOf before)) c
-  -- the backend, and every word of memory
+  -- the backend, and every word of memory (rule 14.11)
   pub memory : Becomes before (afterCall (backendOf before) c) left
-  -- a refused call and an idle turn have no deeds (rules 1.13 and 5.9)
+  -- a refused call and an idle turn have no deeds (rules 1.13, 5.9 and 14.13)
   pub still : deeds c e ≡ [] → left ≡ before

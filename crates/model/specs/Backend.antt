@@ -1,4 +1,4 @@
--- The abstract backend: its ports with their tags, the pointer, its own view, and what an event does to it.
+-- Sections 4 and 5 of docs/RULES.md, the backend: its ports with their tags, the pointer, its own view, and what an event does to it.
 use Prim.Native.Nat.{ℕ}
 use mathlib.Core.Bool.{cond, _&&_}
 use mathlib.Core.List.{List, [], _∷_}
@@ -56,7 +56,7 @@ withPointer b n = record { pointer = n; port = b .port; tag = b .tag }
 abbrev pub brokenPort : Port → Port
 brokenPort p = record { state = State.Broken; params = p .params; consumed = p .consumed; produced = p .produced; busy = p .busy }
 
--- after a start: the request is taken (rule 5.17) and its tag busy (rule 4.7)
+-- after a start: one request is taken, and no more (rules 5.17 and 11.7), and its tag is busy (rule 4.7)
 abbrev pub startedPort : Port → ℕ → Port
 startedPort p t = record {
   state = p .state;

@@ -16,11 +16,11 @@ use Rattle.model.specs.declared.Status.{Status}
 abbrev pub isA : ℕ → Request → Bool
 isA operation r = eqb (r .pair .operation) operation
 
--- blkif.h's BLKIF_MAX_SEGMENTS_PER_REQUEST (rule 2.16)
+-- blkif.h's BLKIF_MAX_SEGMENTS_PER_REQUEST (rules 1.18 and 2.16)
 abbrev pub maxSegments : ℕ
 maxSegments = 11
 
--- blkif.h's BLKIF_DISCARD_SECURE, bit 0 of the flag; the others are not looked at (rules 2.9 and 5.23)
+-- blkif.h's BLKIF_DISCARD_SECURE, bit 0 of the flag; the others are not looked at (rules 1.18, 2.9 and 5.23)
 unfoldable pub asksSecure : Request → Bool
 asksSecure r = isA discard r && eqb (r .flag % 2) 1
 
@@ -43,7 +43,7 @@ unfoldable pub totalSectors : List Segment → ℕ
 totalSectors [] = 0
 totalSectors (s ∷ ss) = sectorsIn s + totalSectors ss
 
--- the sectors that the request speaks of (rules 5.25 and 8.9)
+-- the sectors that the request speaks of, as its slot has them (rules 5.25, 8.9 and 11.8)
 unfoldable pub countOf : Request → ℕ
 countOf r = firstOf (isA discard r ⇒ r .sectors ∷ movesNothing r ⇒ 0 ∷ []) (totalSectors (r .segments))
 
@@ -117,7 +117,7 @@ notGranted grants r = not (isA discard r || movesNothing r) && not (all (isGrant
 unfoldable pub pastEnd : Params → ℕ → ℕ → Bool
 pastEnd p start count = ltb (p .sectors) (start + count)
 
--- 29: the range does not keep to whole sectors of the disk (rule 8.29)
+-- 29: the range does not keep to whole sectors of the disk, a discard's too (rules 8.11 and 8.29)
 unfoldable pub unaligned : Params → ℕ → ℕ → Bool
 unaligned p start count = not (isAligned (p .sector) start && isAligned (p .sector) count)
 
@@ -149,7 +149,7 @@ segmentChecks grants r =
     ∷ check 27 Status.Error (notGranted grants r)
     ∷ []
 
--- its range on the disk (rules 8.9, 8.28 and 8.29)
+-- its range on the disk (rules 8.9, 8.11, 8.28 and 8.29)
 unfoldable pub diskChecks : Params → ℕ → ℕ → List Check
 diskChecks p start count =
     check 28 Status.Error (pastEnd p start count)

@@ -1,5 +1,5 @@
--- What an event does, deed by deed, in the order done. A deed belongs to one port. What becomes of that port, and what the history books of it, both go by
--- deeds, so a call that does more than one thing is a list of deeds and nothing else changes.
+-- Section 12 of docs/RULES.md, rules 12.7 to 12.14: what an event does, deed by deed, in the order done. A deed belongs to one port. What becomes of that port,
+-- and what the history books of it, both go by deeds, so a call that does more than one thing is a list of deeds and nothing else changes.
 use Prim.Native.Nat.{ℕ, _+_, _%_}
 use mathlib.Core.List.{List, [], _∷_}
 use Rattle.model.specs.Buffers.{ports}
@@ -56,7 +56,7 @@ turnDeeds lent left (Turned.Overrun p) = breaking (p .0) ∷ []
 turnDeeds lent left (Turned.Started p t s plan) = starting (p .0) lent (t .0) (s .0) (expectedOf plan) ∷ []
 turnDeeds lent left (Turned.Answered p n z y) = answering (p .0) lent left z ∷ []
 
--- A completion that is done finishes what the call named: port k, tag t, serial s (rules 12.7 and 12.14). Of its answer only the status is booked.
+-- A completion that is done finishes what the call named: port k, tag t, serial s (rules 12.7 and 12.14). Of its answer only the status is booked (rule 12.34).
 abbrev pub completeDeeds : List ℕ → ℕ → ℕ → ℕ → Completed → List Deed
 completeDeeds left k t s (Completed.Refused n) = []
 completeDeeds left k t s (Completed.Done p z y) = finishing k left t s z ∷ []

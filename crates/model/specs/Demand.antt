@@ -1,4 +1,4 @@
--- Demand 3: for every list of calls from the empty backend, what holds of its history (rules 12.19 to 12.32). The proof is `demand3`, in proofs/Demand3.antt.
+-- Demand 3: for every list of calls from the empty backend, what holds of its history (rules 12.19 to 12.33). The proof is `demand3`, in proofs/Demand3.antt.
 use Prim.Native.Nat.{ℕ, zero, suc, _+_, _%_, _≤_, _<_}
 use mathlib.Core.Path.{_≡_}
 use mathlib.Core.Logic.{_⊎_}
@@ -52,7 +52,7 @@ pub record InARow (row turns : List Seen) : Type 0 where
 
 -- of port k, after these events (rule 12.19)
 pub record PortDemand (k : ℕ) (h : List Event) : Type 0 where
-  -- (a) of eight turns in a row at which the port has something to serve, one serves it (rule 12.20)
+  -- (a) of eight turns in a row at which the port has something to serve, one serves it (rules 11.6 and 12.20)
   pub servedInTime : (row : List Seen) → InARow row (turnsOf k h) → length row ≡ 8 → All (λ x. x .wanted ≡ true) row → Any (λ x. serves k x ≡ true) row
   -- (b) while it has something to serve and waits, each other port is served at most once (rule 12.21)
   pub noneTwice : (row : List Seen) → InARow row (turnsOf k h) → All (λ x. (x .wanted ≡ true) × (serves k x ≡ false)) row
@@ -67,9 +67,9 @@ pub record PortDemand (k : ℕ) (h : List Event) : Type 0 where
   pub allAnswered : unfinished (book k h .taken) ≡ [] → Reordered (pairsOf (book k h .taken)) (pairsSaid (book k h .answered))
   -- (g) an answer carries the pair of the very request that it answers (rule 12.28)
   pub carried : All (λ (r : Taken). All (λ (a : Response). a .pair ≡ r .pair) (r .answers)) (book k h .taken)
-  -- (h) an answer's status in the page is the one that the call told (rules 5.32, 6.2 and 6.13)
+  -- (h) an answer's status in the page is the one that the call told (rules 5.32, 6.2, 6.13 and 12.33)
   pub statuses : All (λ (a : Response). a .status ≡ statusBits (a .told)) (book k h .answered)
-  -- the unfinished are as many as req_cons is ahead of rsp_prod_pvt, modulo 2^32 (rule 4.9)
+  -- the unfinished are as many as req_cons is ahead of rsp_prod_pvt, modulo 2^32 (rules 4.9 and 11.9)
   pub inFlight : length (unfinished (book k h .taken)) ≡ distance (length (book k h .taken) % modulus) (length (book k h .answered) % modulus)
 
 -- (f) Every event, with its answer and every byte that it left, is the one that the rules give on what the history before it says (rules 12.26 and 12.31).

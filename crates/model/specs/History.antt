@@ -28,7 +28,7 @@ pub data Named : Type 0 where
   started : (tag serial expected : ℕ) → Named
 
 -- An answer given: its pair and the 16 bits of its status, as they stand in the page that the call left (rule 12.15), and the status that the call's own
--- answer told.
+-- answer told (rule 12.33).
 pub record Response : Type 0 where
   pub pair : Pair
   pub status : ℕ

@@ -1,4 +1,5 @@
--- Section 9 of docs/RULES.md: the worked cases with a star, as one list of tests that the checker computes (rule 9.1).
+-- Section 9 of docs/RULES.md: the worked cases with a star, as one list of tests that the checker computes (rule 9.1). The others (rules 9.7, 9.12, 9.13, 9.19 to
+-- 9.21 and 9.25) are run through the code.
 use Prim.Native.Nat.{ℕ, zero, suc, _+_, _*_}
 use mathlib.Core.Bool.{Bool, true, false}
 use mathlib.Core.List.{List, [], _∷_}

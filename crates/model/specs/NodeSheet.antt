@@ -1,4 +1,5 @@
--- The node sheet: what it says of a port, or the number that it is refused with, 11 to 15.
+-- Section 3 of docs/RULES.md: what a node sheet says of a port, or the number that it is refused with, 11 to 15 (rules 7.11 to 7.15). The sheet of rule 3.12 is
+-- computed in proofs/Sheets.antt.
 use Prim.Native.Nat.{ℕ, zero, suc, _+_, _-_, _*_, _^_}
 use mathlib.Core.Bool.{Bool, true, false, not, cond, _&&_, _||_}
 use mathlib.Core.List.{List, [], _∷_}
@@ -26,6 +27,7 @@ pub record Entry : Type 0 where
 unfoldable pub entryAt : ℕ → ℕ
 entryAt i = 1 + 4 * i
 
+-- how many bytes entry i's body has (rule 3.2)
 unfoldable pub bodyLength : List ℕ → ℕ → ℕ
 bodyLength sheet i = load 2 sheet (entryAt i + 2)
 
@@ -40,9 +42,11 @@ entriesFrom (suc n) sheet i at =
 abbrev pub lastNode : ℕ
 lastNode = 9
 
+-- how many entries the sheet has (rule 3.1)
 abbrev pub entryCount : List ℕ → ℕ
 entryCount sheet = getD sheet 0 0
 
+-- all of them, with their bodies behind the table of contents (rules 3.1 and 3.3)
 unfoldable pub entriesOf : List ℕ → List Entry
 entriesOf sheet = entriesFrom (entryCount sheet) sheet 0 (entryAt (entryCount sheet))
 
@@ -66,10 +70,11 @@ rising before (e ∷ es) = ltb before (e .node) && leb (e .node) lastNode && ris
 
 -- ---- numbers
 
+-- a decimal digit, as a byte of text (rule 3.7)
 unfoldable pub isDigit : ℕ → Bool
 isDigit d = leb 48 d && leb d 57
 
--- the value of the digits after those of value v
+-- the value of the digits after those of value v, however many they are (rules 3.7 and 3.8)
 unfoldable pub digitsFrom : ℕ → List ℕ → ℕ
 digitsFrom v [] = v
 digitsFrom v (d ∷ ds) = digitsFrom (v * 10 + (d - 48)) ds
@@ -88,9 +93,9 @@ numberOf [] = Number.NotANumber
 numberOf (d ∷ []) = digitsOf (d ∷ [])
 numberOf (d ∷ e ∷ ds) = cond (eqb d 48) Number.NotANumber (digitsOf (d ∷ e ∷ ds))
 
--- ---- bodies: each gives a value, or a refusal's number
+-- ---- bodies: each gives a value, or a refusal's number (rule 3.9)
 
--- one of two texts, for 0 and for 1
+-- one of two texts, for 0 and for 1; any other is 13 (rules 3.5 and 7.13)
 unfoldable pub choiceBody : List ℕ → List ℕ → List ℕ → Body
 choiceBody text off on = firstOf (same text off ⇒ Body.Value 0 ∷ same text on ⇒ Body.Value 1 ∷ []) (Body.Refused 13)
 
@@ -100,6 +105,7 @@ numberBody allowed (Number.Value v) = cond (allowed v) (Body.Value v) (Body.Refu
 numberBody allowed Number.TooBig = Body.Refused 14
 numberBody allowed Number.NotANumber = Body.Refused 13
 
+-- the four sizes that a sector can have (rule 3.5)
 unfoldable pub isSectorSize : ℕ → Bool
 isSectorSize v = eqb v 512 || eqb v 1024 || eqb v 2048 || eqb v 4096
 
@@ -107,10 +113,11 @@ isSectorSize v = eqb v 512 || eqb v 1024 || eqb v 2048 || eqb v 4096
 abbrev pub protocol64 : List ℕ
 protocol64 = 120 ∷ 56 ∷ 54 ∷ 95 ∷ 54 ∷ 52 ∷ 45 ∷ 97 ∷ 98 ∷ 105 ∷ []
 
+-- that text, and no other (rules 3.5 and 7.13)
 unfoldable pub protocolBody : List ℕ → Body
 protocolBody text = cond (same text protocol64) (Body.Value 0) (Body.Refused 13)
 
--- which numbers may stand at a node: a sector size, any count of sectors, page order 0
+-- which numbers may stand at a node: a sector size, any count of sectors, page order 0 (rules 3.5 and 7.14)
 unfoldable pub isAllowed : ℕ → ℕ → Bool
 isAllowed node v = firstOf (eqb node 6 ⇒ isSectorSize v ∷ eqb node 7 ⇒ true ∷ []) (eqb v 0)
 
@@ -129,12 +136,14 @@ unfoldable pub afterBody : Body → Sheet → Sheet
 afterBody (Body.Value v) then = then
 afterBody (Body.Refused n) then = Sheet.Refused n
 
+-- and the bodies of these entries, one after another (rules 3.10 and 3.11)
 unfoldable pub afterBodies : List Entry → Sheet → Sheet
 afterBodies [] then = then
 afterBodies (e ∷ es) then = afterBody (bodyOf (e .node) (e .body)) (afterBodies es then)
 
 -- ---- what the sheet says
 
+-- the value of a body; one at fault has refused the sheet before this is asked (rule 3.9)
 abbrev pub bodyValue : Body → ℕ
 bodyValue (Body.Value v) = v
 bodyValue (Body.Refused n) = 0
@@ -144,26 +153,29 @@ unfoldable pub valueOf : ℕ → ℕ → List Entry → ℕ
 valueOf node a [] = a
 valueOf node a (e ∷ es) = cond (eqb (e .node) node) (bodyValue (bodyOf node (e .body))) (valueOf node a es)
 
+-- the node has an entry (rule 3.6)
 unfoldable pub present : ℕ → List Entry → Bool
 present node [] = false
 present node (e ∷ es) = cond (eqb (e .node) node) true (present node es)
 
+-- a sector size that is allowed, as its case (rule 3.5)
 abbrev pub sectorSizeOf : ℕ → SectorSize
 sectorSizeOf v =
     firstOf (eqb v 1024 ⇒ SectorSize.Bytes1024 ∷ eqb v 2048 ⇒ SectorSize.Bytes2048 ∷ eqb v 4096 ⇒ SectorSize.Bytes4096 ∷ []) SectorSize.Bytes512
 
--- what a node is without an entry
+-- what a node is without an entry (rule 3.5). Nodes 1, 6 and 7 are never seen without one, since 15 comes first: the 512 of node 6 is just some sector size.
 unfoldable pub absent : ℕ → ℕ
 absent node = cond (eqb node 6) 512 0
 
--- the value of each node
+-- the value of each node (rule 3.5)
 unfoldable pub valuesOf : List Entry → ℕ → ℕ
 valuesOf es node = valueOf node (absent node) es
 
+-- a choice of two, as yes or no: "w" and "1" are yes (rule 3.5)
 abbrev pub isOn : ℕ → Bool
 isOn v = eqb v 1
 
--- what the values of the nodes say of a port
+-- what the values of the nodes say of a port (rule 3.5)
 unfoldable pub paramsOf : (ℕ → ℕ) → Params
 paramsOf value = record {
   writable = isOn (value 1);

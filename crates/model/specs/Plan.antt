@@ -1,4 +1,4 @@
--- The plan of a request that passed the checks, and the verdict on any request.
+-- Section 5 of docs/RULES.md, plans: that of a request that passed the checks, and the verdict on any request.
 use Prim.Native.Nat.{ℕ, zero, suc, _+_, _*_}
 use mathlib.Core.Bool.{cond}
 use mathlib.Core.List.{List, [], _∷_}
@@ -49,10 +49,11 @@ abbrev pub decided : Plan → Checked → Verdict
 decided plan Checked.Passed = Verdict.Start plan
 decided plan (Checked.Refused n s) = Verdict.Refused n s
 
+-- the verdict on a request, by its own checks and its own plan (rules 5.19, 8.2 and 11.5)
 unfoldable pub verdictOf : Params → List ℕ → Request → Verdict
 verdictOf p grants r = decided (planOf r) (firstFailed (checks p grants r))
 
--- the words of all places
+-- how many words all places have (rule 5.33)
 abbrev pub planWords : ℕ
 planWords = 4 * maxSegments
 

@@ -63,7 +63,7 @@ setBusy m t = m + 2 ^ t
 abbrev pub clearBusy : ℕ → ℕ → ℕ
 clearBusy m t = m - 2 ^ t
 
--- In flight, by the marks (rule 4.8). That this is req_cons - rsp_prod_pvt modulo 2^32 is proved, of every history (rule 4.9).
+-- In flight, by the marks (rules 4.8 and 11.9). That this is req_cons - rsp_prod_pvt modulo 2^32 is proved, of every history (rule 4.9).
 unfoldable pub inFlightOf : ℕ → ℕ
 inFlightOf m = tally busyBits (isBusy m)
 

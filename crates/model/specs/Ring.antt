@@ -14,7 +14,7 @@ use Rattle.model.specs.declared.Pair.{Pair}
 use Rattle.model.specs.declared.Segment.{Segment}
 use Rattle.model.specs.declared.Status.{Status}
 
--- the bytes of the header, and where its four fields stand (rule 2.2)
+-- the bytes of the header, and where its four fields stand, as in ring.h (rules 1.18 and 2.2)
 abbrev pub headerSize : ℕ
 headerSize = 64
 

@@ -41,7 +41,7 @@ pendingAt v rings k = pendingOf (ringAt v k .size) (v .inFlight k) (distance (re
 unfoldable pub hasWork : View → List ℕ → ℕ → Bool
 hasWork v rings k = isOpen (v .state k) && isWork (pendingAt v rings k)
 
--- the i-th port that a turn comes to (rule 5.2)
+-- the i-th port that a turn comes to, from the pointer on (rules 5.2 and 10.6)
 abbrev pub lookedAt : View → ℕ → ℕ
 lookedAt v i = (v .pointer + i) % ports
 
@@ -105,14 +105,14 @@ settled v rings k r (Verdict.Start plan) = record {
 unfoldable pub overran : List ℕ → ℕ → TurnEffect
 overran rings k = record { rings = rings; words = noWords; answer = Turned.Overrun (portId k) }
 
--- port k is served, by what its req_prod says (rule 4.12); where that is nothing, it is not
+-- port k is served, by what its req_prod says (rule 4.12); where that is nothing, it is not (rule 11.10)
 unfoldable pub servedBy : View → List ℕ → List ℕ → ℕ → Pending → TurnEffect
 servedBy v rings grants k Pending.Nothing = idle v rings
 servedBy v rings grants k Pending.Waits =
     settled v rings k (requestAt v rings k) (verdictOf (v .params k) (grantsOf grants k) (requestAt v rings k))
 servedBy v rings grants k Pending.Overrun = overran rings k
 
--- a turn that is not refused: one port is served, or none (rules 5.3 and 5.6)
+-- a turn that is not refused: one port is served, or none (rules 5.3, 5.6 and 11.6)
 unfoldable pub turned : View → List ℕ → List ℕ → TurnEffect
 turned v rings grants =
     let k = lookedAt v (passedOver v rings) in
