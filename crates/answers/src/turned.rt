@@ -79,6 +79,7 @@ fn put_values(
     answer[REASON] = reason;
     answer[STATUS] = status;
     answer[NOTIFY] = notify;
+    // Words that no kind uses stand on both sides of the extents.
     answer[12] = 0;
     answer[13] = 0;
     answer[14] = 0;

@@ -58,7 +58,10 @@ abbrev pub completedWords : Completed → List ℕ
 completedWords (Completed.Refused n) = []
 completedWords (Completed.Done p z y) = p .0 ∷ magnitude z ∷ yesNo y ∷ []
 
--- where a turn's answer has the words of its extents, four to each of eleven places (rules 5.33 and 14.7)
+-- how many words a turn's answer has, and where those of its extents stand, four to each of eleven places (rules 5.33 and 14.7)
+abbrev pub turnWords : ℕ
+turnWords = 64
+
 abbrev pub extentsAt : ℕ
 extentsAt = 16
 

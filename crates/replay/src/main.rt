@@ -16,11 +16,10 @@
 // byte that the call changed, as PLACE:BYTE, its place in the 32,768.
 //
 // Only safety is proved here: that each answer is right is proved in `turn` and `backend`.
-mod input;
-mod output;
-
-use crate::input::NUMBERS;
 use libc::STDIN_FILENO;
+use lines::input;
+use lines::input::NUMBERS;
+use lines::output;
 use memory::WORDS;
 use model::PortId;
 use model::Serial;
@@ -129,12 +128,15 @@ fn call(
 ) {
     if letter == b'c' {
         close(memory, c);
+        return;
     }
     if letter == b't' {
         take_turn(memory, rings, grants, LENT_RINGS, LENT_GRANTS);
+        return;
     }
     if letter == b'T' {
         take_turn(memory, rings, grants, c[0], c[1]);
+        return;
     }
     if letter == b'f' {
         complete(
@@ -144,6 +146,7 @@ fn call(
             [c[0], c[1], c[2]],
             input::signed(c[3], negative),
         );
+        return;
     }
     if letter == b'F' {
         complete(

@@ -8,7 +8,7 @@ use lib.ListN.{length}
 use borrow.Author.Tests.{lt-ltb, eq-eqb, ne-eqb}
 use Rattle.wire.specs.Part.{setPart}
 use Rattle.wire.proofs.Part.{part-setPart}
-use Rattle.model.specs.Answers.{extentsAt, extentsIn}
+use Rattle.model.specs.Answers.{turnWords, extentsAt, extentsIn}
 use Rattle.model.specs.Backend.{viewOf, next}
 use Rattle.model.specs.Buffers.{ports, ringsLength, grantsLength}
 use Rattle.model.specs.Calls.{Turn, TurnEffect}
@@ -99,7 +99,7 @@ module _ (m rings grants words : List ℕ) where
 -- ---- the extents in the middle of the answer
 
 module _ (m rings grants answer pages left : List ℕ) where
-  pub within : (r : Turned) (ys : List ℕ) → length answer ≡ 64 → length ys ≡ planWords
+  pub within : (r : Turned) (ys : List ℕ) → length answer ≡ turnWords → length ys ≡ planWords
       → Promised m (Turn rings grants (extentsIn answer)) (record { rings = pages; words = ys; answer = r }) left
       → TurnPromised m rings grants answer r pages (setPart planWords answer extentsAt ys) left
   within r ys h l p =

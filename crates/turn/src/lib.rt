@@ -13,6 +13,7 @@ use rotation::rest;
 use serve::serve;
 ghost use mathlib.Core.Path.{_≡_};
 ghost use lib.ListN.{length};
+ghost use Rattle.model.specs.Answers.{turnWords};
 ghost use Rattle.model.specs.Calls.{Turn};
 ghost use Rattle.model.specs.Plan.{planWords};
 ghost use Rattle.memory.specs.Promise.{Promised};
@@ -51,7 +52,7 @@ fn turn_within(
     grants: &[u8],
     answer: &mut [u64],
 ) -> Turned
-    requires { ⌜ length (now answer) ≡ 64 ⌝ }
+    requires { ⌜ length (now answer) ≡ turnWords ⌝ }
     ensures { λ r. ⌜ TurnPromised (now (memory .entry)) (now (rings .entry)) (now (grants .entry)) (now (answer .entry)) r (now (rings .exit)) (now (answer .exit)) (now (memory .exit)) ⌝ }
 {
     turn_into(

@@ -1,8 +1,8 @@
--- `replay::output::extents` is safe and ends. The measure is the words that are left. Assumes nothing.
+-- `lines::output::extents` is safe and ends. The measure is the words that are left. Assumes nothing.
 use borrow.Author.Needs.{needs}
 use Prim.Native.Nat.{_-_}
-use Rattle.replay.proofs.output.extents.Statement.{statement}
-use Rattle.replay.proofs.output.extents.Tie as tie
+use Rattle.lines.proofs.output.extents.Statement.{statement}
+use Rattle.lines.proofs.output.extents.Tie as tie
 
 abbrev Inv-loop : tie.InvT-loop
 Inv-loop answer n i₀ t4 i = Unit {0}

@@ -1,11 +1,11 @@
--- `replay::input::find` meets its contract: the place stays within the text. Assumes nothing.
+-- `lines::input::find` meets its contract: the place stays within the text. Assumes nothing.
 use borrow.Author.Needs.{needs}
 use Prim.Native.Nat.{_-_, _≤_}
 use native.Mathlib.Omega.{arith}
 use lib.ListN.{length}
 use Rattle.io.proofs.Counting.{counts}
-use Rattle.replay.proofs.input.find.Statement.{statement}
-use Rattle.replay.proofs.input.find.Tie as tie
+use Rattle.lines.proofs.input.find.Statement.{statement}
+use Rattle.lines.proofs.input.find.Tie as tie
 
 abbrev Inv-loop : tie.InvT-loop
 Inv-loop text from byte i₀ i = (from ≤ i) × (i ≤ length text)

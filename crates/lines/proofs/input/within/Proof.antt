@@ -1,8 +1,8 @@
--- `replay::input::within` meets its contract: neither answer is past the slice. Assumes nothing.
+-- `lines::input::within` meets its contract: neither answer is past the slice. Assumes nothing.
 use native.Mathlib.Omega.{arith}
 use Rattle.io.proofs.Counting.{counts}
-use Rattle.replay.proofs.input.within.Statement.{statement}
-use Rattle.replay.proofs.input.within.Tie as tie
+use Rattle.lines.proofs.input.within.Statement.{statement}
+use Rattle.lines.proofs.input.within.Tie as tie
 
 returns : tie.Need-returns
 returns c = counts _ _ (omega arith)

@@ -1,12 +1,12 @@
--- `replay::input::numbers` meets its contract: the place stays within the bytes. The measure is the places that are left. Assumes nothing.
+-- `lines::input::numbers` meets its contract: the place stays within the bytes. The measure is the places that are left. Assumes nothing.
 use borrow.Author.Needs.{needs}
 use mathlib.Core.Path.{_≡_}
 use Prim.Native.Nat.{_-_, _≤_}
 use native.Mathlib.Omega.{arith}
 use lib.ListN.{length, length-set}
 use Rattle.io.proofs.Counting.{counts}
-use Rattle.replay.proofs.input.numbers.Statement.{statement}
-use Rattle.replay.proofs.input.numbers.Tie as tie
+use Rattle.lines.proofs.input.numbers.Statement.{statement}
+use Rattle.lines.proofs.input.numbers.Tie as tie
 
 abbrev Inv-loop : tie.InvT-loop
 Inv-loop line words₀ bytes₀ at₀ i₀ words bytes at i = (i ≤ length bytes) × (length bytes ≡ length bytes₀)

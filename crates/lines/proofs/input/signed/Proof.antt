@@ -1,4 +1,4 @@
--- `replay::input::signed` is safe: the size is below 2^31, so it may be negated. Assumes nothing.
+-- `lines::input::signed` is safe: the size is below 2^31, so it may be negated. Assumes nothing.
 use borrow.Author.Needs.{needs}
 use native.Mathlib.Omega.{arith}
 use Prim.Native.Nat.{ℕ, zero, suc, _<_, _%_}
@@ -7,8 +7,8 @@ use lib.IntN.{pos, negsuc, _-ℤ_, +ℤ-idl}
 use mir.Syntax.{w32}
 use mir.Val.{SFits}
 use mir.ValLaws.{toZ-pos}
-use Rattle.replay.proofs.input.signed.Statement.{statement}
-use Rattle.replay.proofs.input.signed.Tie as tie
+use Rattle.lines.proofs.input.signed.Statement.{statement}
+use Rattle.lines.proofs.input.signed.Tie as tie
 
 negated : (m : ℕ) → m < 2147483648 → SFits w32 (pos 0 -ℤ pos m)
 negated zero h = record { sfits = omega arith }

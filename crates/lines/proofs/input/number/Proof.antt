@@ -1,9 +1,9 @@
--- `replay::input::number` is safe and ends. The measure is the line that is left. Assumes nothing.
+-- `lines::input::number` is safe and ends. The measure is the line that is left. Assumes nothing.
 use borrow.Author.Needs.{needs}
 use Prim.Native.Nat.{_-_}
 use lib.ListN.{length}
-use Rattle.replay.proofs.input.number.Statement.{statement}
-use Rattle.replay.proofs.input.number.Tie as tie
+use Rattle.lines.proofs.input.number.Statement.{statement}
+use Rattle.lines.proofs.input.number.Tie as tie
 
 abbrev Inv-loop : tie.InvT-loop
 Inv-loop line from v₀ i₀ v i = Unit {0}

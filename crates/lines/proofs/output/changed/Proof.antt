@@ -1,8 +1,8 @@
--- `replay::output::changed` is safe and ends. The measure is the bytes that are left. Assumes nothing.
+-- `lines::output::changed` is safe and ends. The measure is the bytes that are left. Assumes nothing.
 use borrow.Author.Needs.{needs}
 use Prim.Native.Nat.{_-_}
-use Rattle.replay.proofs.output.changed.Statement.{statement}
-use Rattle.replay.proofs.output.changed.Tie as tie
+use Rattle.lines.proofs.output.changed.Statement.{statement}
+use Rattle.lines.proofs.output.changed.Tie as tie
 
 abbrev Inv-loop : tie.InvT-loop
 Inv-loop shown₀ rings i₀ shown i = Unit {0}
