@@ -190,7 +190,7 @@ fn rattle_sizes_and_places() {
     let mut met = 0;
     for (source, prefix) in [
         (source!("model/src/buffer"), "KH_"),
-        (source!("model/src/layout"), "KH_"),
+        (source!("layout/src/lib"), "KH_"),
         (source!("model/src/limit"), "KH_"),
         (source!("model/src/grant"), "KH_GRANT_"),
         (source!("answers/src/turned"), "KH_TURN_"),

@@ -24,7 +24,7 @@ use Rattle.model.specs.declared.Status.{Status}
 use Rattle.model.specs.declared.Tag.{Tag}
 use Rattle.model.specs.declared.TagId.{TagId}
 use Rattle.model.proofs.View.{view-state, view-responded, view-notifies}
-use Rattle.ring.specs.Promise.{RespondedIn}
+use Rattle.response.specs.Promise.{RespondedIn}
 use Rattle.memory.specs.Backend.{backendOf, Becomes, withProduced, withBusy}
 use Rattle.memory.specs.Promise.{Promised}
 use Rattle.memory.proofs.Backend.{port-with-tag}

@@ -1,4 +1,5 @@
 // Completing a started request.
+use layout::ring_size;
 use memory::WORDS;
 use model::Completed;
 use model::Pair;
@@ -10,7 +11,6 @@ use model::Tag;
 use model::TagId;
 use model::buffer::PORTS;
 use model::buffer::RINGS_BYTES;
-use model::layout::ring_size;
 use model::refusal::IS_CLOSED;
 use model::refusal::NO_PORT;
 use model::refusal::NOT_BUSY;
@@ -61,12 +61,12 @@ fn finish(
     requires { ⌜ TagHeld (backendOf (now memory)) k t p × (length (now rings) ≡ ringsLength) ⌝ }
     ensures { λ r. ⌜ TagFinished (now (memory .entry)) (now (rings .entry)) k t x result (now (rings .exit)) r (now (memory .exit)) ⌝ }
 {
-    let status = ring::status_of(x.expected, result);
+    let status = response::status_of(x.expected, result);
     let pair = x.pair;
     let params = p.params;
     let abi = params.abi;
     release(memory, k, t, p);
-    let notify = ring::respond(rings, k, abi, p.produced, pair, status);
+    let notify = response::respond(rings, k, abi, p.produced, pair, status);
     Completed::Done(PortId(k as u32), status, notify)
 }
 

@@ -1,8 +1,8 @@
 // Checks 21 to 25: what a request asks for, before any of its segments is looked at. A reason is told as its number, 0 where there is none: as an enum
 // it costs every turn some instructions.
-use model::layout::REQUEST_COUNT;
-use model::layout::REQUEST_OPERATION;
-use model::layout::SLOT_BYTES;
+use layout::REQUEST_COUNT;
+use layout::REQUEST_OPERATION;
+use layout::SLOT_BYTES;
 use model::limit::MOST_SEGMENTS;
 use model::operation::BARRIER;
 use model::operation::DISCARD;
@@ -71,7 +71,7 @@ fn discard_reason(params: model::Params, slot: &[u8; SLOT_BYTES]) -> u32
     ensures { λ r. ⌜ r ≡ operationReason params (requestIn params (now (slot .entry))) ⌝ }
 {
     let abi = params.abi;
-    let at = model::layout::segments_at(abi);
+    let at = layout::segments_at(abi);
     let later = discard_amount(wire::u64_at(slot, at));
     if !params.discard {
         return FEATURE_OFF;

@@ -7,8 +7,8 @@
 //
 // Reading is total: no content of the words is wrong. Callers see the backend that the words say (specs/Backend.antt), and no word.
 use crate::words::known;
+use layout::SLOTS;
 use model::buffer::PORTS;
-use model::layout::SLOTS;
 ghost use mathlib.Core.Path.{_≡_};
 ghost use Prim.Native.Nat.{_<_};
 ghost use Rattle.model.specs.Buffers.{ports};

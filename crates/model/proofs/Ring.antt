@@ -42,18 +42,9 @@ fits-for Abi.Bits64 = record {
   responseRoom = omega arith;
 }
 
--- the numbers as the code has them
+-- every slot is as long as the largest
 pub slot-place : (a : Abi) → slotBytes ≡ layoutOf a .slotSize
 slot-place Abi.Bits64 = refl
-
-pub id-place : (a : Abi) → 8 ≡ layoutOf a .idAt
-id-place Abi.Bits64 = refl
-
-pub start-place : (a : Abi) → 16 ≡ layoutOf a .startAt
-start-place Abi.Bits64 = refl
-
-pub segments-place : (a : Abi) → 24 ≡ layoutOf a .segmentsAt
-segments-place Abi.Bits64 = refl
 
 pub fits : (p : Params) → Fits (ringOf p)
 fits p = fits-for (p .abi)

@@ -2,7 +2,6 @@
 
 pub mod buffer;
 pub mod grant;
-pub mod layout;
 pub mod limit;
 pub mod node;
 pub mod operation;

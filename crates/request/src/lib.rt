@@ -1,14 +1,13 @@
 // One request, judged: the checks 21 to 29 over the copy of its slot, and the plan of a request that passes them.
 // Only the copy is read, so nothing that a guest writes meanwhile can change a field between its check and its use.
+use layout::REQUEST_COUNT;
+use layout::REQUEST_OPERATION;
+use layout::SLOT_BYTES;
 use model::Checked;
 use model::Params;
 use model::Plan;
 use model::Status;
 use model::Verdict;
-use model::layout;
-use model::layout::REQUEST_COUNT;
-use model::layout::REQUEST_OPERATION;
-use model::layout::SLOT_BYTES;
 use model::operation::DISCARD;
 use model::reason::READ_ONLY;
 use segments::Counted;

@@ -1,19 +1,14 @@
 // The pages of the ring buffer: port k's begins at RING_BYTES * k.
 use crate::index::next_index;
-use crate::response::write_response;
-use model::Abi;
-use model::Pair;
-use model::Status;
+use layout::REQ_EVENT;
+use layout::REQ_PROD;
 use model::buffer::RING_BYTES;
-use model::layout::REQ_EVENT;
-use model::layout::REQ_PROD;
 ghost use mathlib.Core.Path.{_≡_};
 ghost use Prim.Native.Nat.{_<_};
 ghost use lib.ListN.{length};
 ghost use Rattle.model.specs.Buffers.{ports, ringsLength, pageOf, setPage};
 ghost use Rattle.model.specs.Port.{after};
-ghost use Rattle.model.specs.Ring.{ringFor, reqProd, setReqEvent};
-ghost use Rattle.ring.specs.Promise.{RespondedIn};
+ghost use Rattle.model.specs.Ring.{reqProd, setReqEvent};
 
 // req_prod of port k: reads its four bytes, once.
 pub fn req_prod(rings: &[u8], k: usize) -> u32
@@ -29,21 +24,4 @@ pub fn arm(rings: &mut [u8], k: usize, consumed: u32)
     ensures { λ _. ⌜ now (rings .exit) ≡ setPage (now (rings .entry)) k (setReqEvent (pageOf (now (rings .entry)) k) (after consumed)) ⌝ }
 {
     wire::put_u32(rings, RING_BYTES * k + REQ_EVENT, next_index(consumed));
-}
-
-// A response into port k's page, which is lent on. Reads rsp_event, once.
-pub fn respond(
-    rings: &mut [u8],
-    k: usize,
-    abi: Abi,
-    produced: u32,
-    pair: Pair,
-    status: Status,
-) -> bool
-    requires { ⌜ (k < ports) × (length (now rings) ≡ ringsLength) ⌝ }
-    ensures { λ r. ⌜ RespondedIn (ringFor abi) (now (rings .entry)) k produced pair status (now (rings .exit)) r ⌝ }
-{
-    let base = RING_BYTES * k;
-    let end = base + RING_BYTES;
-    write_response(&mut rings[base..end], abi, produced, pair, status)
 }

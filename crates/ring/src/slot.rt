@@ -1,9 +1,9 @@
 // The slots of a ring: where the slot of an index starts, and its copy.
+use layout::HEADER_BYTES;
+use layout::SLOT_BYTES;
+use layout::ring_size;
+use layout::slot_size;
 use model::Abi;
-use model::layout::HEADER_BYTES;
-use model::layout::SLOT_BYTES;
-use model::layout::ring_size;
-use model::layout::slot_size;
 ghost use mathlib.Core.Path.{_≡_};
 ghost use Prim.Native.Nat.{_+_, _≤_};
 ghost use lib.ListN.{length};

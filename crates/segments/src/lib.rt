@@ -1,8 +1,8 @@
 // Checks 26 and 27 over a request's segments, and the extents that they become.
-use model::layout::SEGMENT_BYTES;
-use model::layout::SEGMENT_FIRST;
-use model::layout::SEGMENT_LAST;
-use model::layout::SLOT_BYTES;
+use layout::SEGMENT_BYTES;
+use layout::SEGMENT_FIRST;
+use layout::SEGMENT_LAST;
+use layout::SLOT_BYTES;
 use model::limit::EXTENT_WORDS;
 use model::limit::FRAMES;
 use model::limit::LAST_IN_FRAME;
@@ -66,7 +66,7 @@ pub fn scan(
     let mut sector = start;
     let mut place: usize = 0;
     while place < EXTENT_WORDS * n {
-        let at = model::layout::segments_at(abi) + STEP * place;
+        let at = layout::segments_at(abi) + STEP * place;
         let frame = wire::u32_at(slot, at);
         let first = slot[at + SEGMENT_FIRST];
         let last = slot[at + SEGMENT_LAST];
@@ -97,7 +97,7 @@ pub fn fault_reason(abi: model::Abi, slot: &[u8; SLOT_BYTES], n: usize) -> u32
 {
     let mut i: usize = 0;
     while i < n {
-        let at = model::layout::segment_at(abi, i);
+        let at = layout::segment_at(abi, i);
         let first = slot[at + SEGMENT_FIRST];
         let last = slot[at + SEGMENT_LAST];
         if last < first {

@@ -1,4 +1,5 @@
 // Serving a port: an overrun, or one request, started or answered at once.
+use layout::ring_size;
 use memory::WORDS;
 use model::Abi;
 use model::Pair;
@@ -15,7 +16,6 @@ use model::Verdict;
 use model::buffer::PORT_GRANTS;
 use model::buffer::PORTS;
 use model::buffer::RING_BYTES;
-use model::layout::ring_size;
 use model::operation::DISCARD;
 use model::operation::FLUSH;
 ghost use mathlib.Core.Path.{_≡_};
@@ -101,7 +101,7 @@ fn decline(
     let params = p.params;
     let abi = params.abi;
     let produced = memory::produced(memory, k);
-    let notify = ring::respond(rings, k, abi, produced, pair, status);
+    let notify = response::respond(rings, k, abi, produced, pair, status);
     memory::set_consumed(memory, k, ring::next_index(p.consumed));
     memory::set_produced(memory, k, ring::next_index(produced));
     advance(memory, k);

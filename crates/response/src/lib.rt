@@ -1,0 +1,9 @@
+// A response: the status that it tells, its fields in the slot of our own index, and its publishing, with whether to notify the guest.
+// Of guest bytes it reads rsp_event alone, once: `write::publish`.
+mod page;
+mod status;
+mod write;
+
+pub use page::respond;
+pub use status::status_number;
+pub use status::status_of;

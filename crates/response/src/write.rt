@@ -1,0 +1,86 @@
+// A response written into a page, and published.
+use crate::status::status_number;
+use layout::RESPONSE_OPERATION;
+use layout::RESPONSE_PADDING;
+use layout::RESPONSE_STATUS;
+use layout::RSP_EVENT;
+use layout::RSP_PROD;
+use model::Abi;
+use model::Pair;
+use model::Status;
+ghost use mathlib.Core.Path.{_≡_};
+ghost use Prim.Native.Nat.{_+_, _-_, _≤_};
+ghost use lib.ListN.{length};
+ghost use Rattle.wire.specs.LittleEndian.{store};
+ghost use Rattle.model.specs.Buffers.{pageShare};
+ghost use Rattle.model.specs.Ring.{layoutOf, ringFor, setResponse, rspProdAt, responseOperationAt, responseStatusAt, responsePaddingAt};
+ghost use Rattle.response.specs.Promise.{Published, Responded};
+
+// The operation of the response at `at`, and the zero behind it: a number of two bytes.
+fn put_operation(page: &mut [u8], at: usize, operation: u8)
+    requires { ⌜ at + responseStatusAt ≤ length (now page) ⌝ }
+    ensures { λ _. ⌜ now (page .exit) ≡ store 1 (store 1 (now (page .entry)) (at + responseOperationAt) operation) (at + (responseOperationAt + 1)) 0 ⌝ }
+{
+    wire::put_u16(page, at + RESPONSE_OPERATION, operation as u16);
+}
+
+// Zeros from `at` to the end of the response, so that no byte of the guest's stays there.
+fn put_padding(page: &mut [u8], abi: Abi, at: usize)
+    requires { ⌜ at + (layoutOf abi .responseSize - responsePaddingAt) ≤ length (now page) ⌝ }
+    ensures { λ _. ⌜ now (page .exit) ≡ store (layoutOf abi .responseSize - responsePaddingAt) (now (page .entry)) at 0 ⌝ }
+{
+    match abi {
+        Abi::Bits64 => wire::put_u32(page, at, 0),
+    }
+}
+
+// The fields of a response, each byte once, from the first to the last.
+fn put_fields(page: &mut [u8], abi: Abi, at: usize, pair: Pair, s: Status)
+    requires { ⌜ at + layoutOf abi .responseSize ≤ length (now page) ⌝ }
+    ensures { λ _. ⌜ now (page .exit) ≡ setResponse (layoutOf abi) (now (page .entry)) at pair s ⌝ }
+{
+    let id = pair.id;
+    let operation = pair.operation;
+    let number = status_number(s);
+    wire::put_u64(page, at, id);
+    put_operation(page, at, operation);
+    wire::put_i16(page, at + RESPONSE_STATUS, number);
+    put_padding(page, abi, at + RESPONSE_PADDING);
+}
+
+// A response goes to `at`; the rest of the slot is not touched.
+fn put_response(page: &mut [u8], abi: Abi, at: usize, pair: Pair, status: Status)
+    requires { ⌜ at + layoutOf abi .responseSize ≤ length (now page) ⌝ }
+    ensures { λ _. ⌜ now (page .exit) ≡ setResponse (layoutOf abi) (now (page .entry)) at pair status ⌝ }
+{
+    put_fields(page, abi, at, pair, status);
+}
+
+// rsp_prod is our own number; what the page had there is never read.
+fn put_rsp_prod(page: &mut [u8], v: u32)
+    requires { ⌜ length (now page) ≡ pageShare ⌝ }
+    ensures { λ _. ⌜ now (page .exit) ≡ store 4 (now (page .entry)) rspProdAt v ⌝ }
+{
+    wire::put_u32(page, RSP_PROD, v);
+}
+
+// rsp_prod goes up by one, and only then is rsp_event read, once, as in ring.h. That is the order of the source: no fence stands between.
+fn publish(page: &mut [u8], produced: u32) -> bool
+    requires { ⌜ length (now page) ≡ pageShare ⌝ }
+    ensures { λ r. ⌜ Published (now (page .entry)) produced (now (page .exit)) r ⌝ }
+{
+    let next = ring::next_index(produced);
+    put_rsp_prod(page, next);
+    wire::u32_at(page, RSP_EVENT) == next
+}
+
+// A response into the page: its bytes, then rsp_prod from our own index. The answer is whether to notify the guest.
+// Reads rsp_event, once.
+pub fn write_response(page: &mut [u8], abi: Abi, produced: u32, pair: Pair, status: Status) -> bool
+    requires { ⌜ length (now page) ≡ pageShare ⌝ }
+    ensures { λ r. ⌜ Responded (ringFor abi) (now (page .entry)) produced pair status (now (page .exit)) r ⌝ }
+{
+    let at = ring::slot_at(abi, produced);
+    put_response(page, abi, at, pair, status);
+    publish(page, produced)
+}
