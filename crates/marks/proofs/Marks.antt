@@ -3,10 +3,11 @@ use mathlib.Core.Path.{_≡_, refl, ap, _∙_, fun-ext}
 use mathlib.Core.Bool.{Bool, true, false, not}
 use Prim.Native.Nat.{ℕ, zero, suc, _+_, _-_, _*_, _/_, _%_, _^_, _≤_, _<_}
 use native.Mathlib.Nat.{one-mul, mod-eq-of-lt, div-one, div-div-eq-div-mul, pow-succ'}
+use native.Mathlib.Decide.{decLt}
 use native.Mathlib.Omega.{arith}
-use lib.Dec.{eqb}
+use lib.Dec.{eqb, ltb, leb}
 use lib.Pow.{pow-lt}
-use borrow.Author.Tests.{not-true}
+use borrow.Author.Tests.{not-true, lt-leb, le-leb, lt-ltb, le-ltb}
 use Rattle.model.specs.Base.{least, tally}
 use Rattle.model.specs.Port.{busyBits, isBusy, inFlightOf, Holder, isFree, lowestFree}
 use Rattle.model.specs.Backend.{holderOf}
@@ -75,3 +76,11 @@ pub lowest-free-clear : (size m : ℕ) → size ≤ busyBits → inFlightOf m < 
 lowest-free-clear size m l h =
     not-true (isBusy m (least busyBits (λ t. not (isBusy m t))))
     (least-is busyBits (λ t. not (isBusy m t)) (omega (arith, lowest-free-lt size m l h)))
+
+-- the room beside the requests in flight, told from what a distance leaves
+pub beside : (size d f : ℕ) → d ≤ size → not (leb f (size - d)) ≡ ltb size (d + f)
+beside size d f h =
+    elim (decLt size (d + f)) [
+      | yes x ↦ rw (lt-leb f (size - d) (omega arith), lt-ltb size (d + f) x)
+      | no x ↦ rw (le-leb f (size - d) (omega arith), le-ltb size (d + f) (omega arith))
+    ]

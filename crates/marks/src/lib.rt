@@ -1,10 +1,13 @@
-// The marks of a port's busy tags: one word, a bit to a tag.
+// The marks of a port's busy tags: one word, a bit to a tag. How many requests they leave room for.
+use layout::ring_size;
+use model::Abi;
 ghost use mathlib.Core.Path.{_≡_};
 ghost use mathlib.Core.Bool.{true, false, not};
-ghost use Prim.Native.Nat.{_<_};
-ghost use lib.Dec.{leb};
+ghost use Prim.Native.Nat.{_+_, _<_};
+ghost use lib.Dec.{leb, ltb};
 ghost use Rattle.model.specs.Base.{least};
 ghost use Rattle.model.specs.Port.{busyBits, isBusy, setBusy, clearBusy, inFlightOf};
+ghost use Rattle.model.specs.Ring.{ringFor};
 
 // The lowest tag whose mark is clear: 64 where all are set.
 pub fn lowest_free(marks: u64) -> u32
@@ -51,4 +54,16 @@ pub fn at_most(marks: u64, n: u32) -> bool
         return true;
     }
     in_flight(marks) <= n
+}
+
+// Whether a distance d is more than the ring has room for beside the requests in flight.
+pub fn overruns(abi: Abi, marks: u64, d: u32) -> bool
+    requires { ⌜ (d ≡ 0 → ⊥) ⌝ }
+    ensures { λ r. ⌜ r ≡ ltb (ringFor abi .size) (d + inFlightOf marks) ⌝ }
+{
+    let size = ring_size(abi);
+    if size < d {
+        return true;
+    }
+    !at_most(marks, size - d)
 }

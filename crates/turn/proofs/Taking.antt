@@ -1,12 +1,10 @@
 -- Taking a request: the copied bytes are those of the slot that the rules name, and what a turn leaves is what the verdict on them makes due. Assumes nothing.
 use mathlib.Core.Path.{_≡_, refl, sym, ap, _∙_}
-use mathlib.Core.Bool.{Bool, true, false, not, _&&_}
+use mathlib.Core.Bool.{Bool, true, false, _&&_}
 use mathlib.Core.List.{List}
 use Prim.Native.Nat.{ℕ, _+_, _-_, _*_, _≤_, _<_}
-use native.Mathlib.Decide.{decLt}
 use native.Mathlib.Omega.{arith}
-use lib.Dec.{leb, ltb}
-use borrow.Author.Tests.{eq-eqb, ne-eqb, le-leb, lt-leb, lt-ltb, le-ltb}
+use borrow.Author.Tests.{eq-eqb, ne-eqb, le-leb, lt-leb}
 use Rattle.wire.specs.Part.{part}
 use Rattle.wire.proofs.Part.{part-part}
 use Rattle.model.specs.Backend.{Backend, viewOf, does}
@@ -71,14 +69,6 @@ module _ (size inFlight d : ℕ) where
   overrun : (d ≡ 0 → ⊥) → size < d + inFlight → Pending.Overrun ≡ pendingOf size inFlight d
   unfolding pendingOf
   overrun n h = rw (ne-eqb d 0 n, lt-leb d (size - inFlight) (omega arith))
-
--- the room beside the requests in flight, told from what a distance leaves
-pub beside : (size d f : ℕ) → d ≤ size → not (leb f (size - d)) ≡ ltb size (d + f)
-beside size d f h =
-    elim (decLt size (d + f)) [
-      | yes x ↦ rw (lt-leb f (size - d) (omega arith), lt-ltb size (d + f) x)
-      | no x ↦ rw (le-leb f (size - d) (omega arith), le-ltb size (d + f) (omega arith))
-    ]
 
 -- ---- a request taken, started or answered at once
 

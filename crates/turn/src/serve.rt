@@ -1,7 +1,5 @@
 // Serving a port: an overrun, or one request, started or answered at once.
-use layout::ring_size;
 use memory::WORDS;
-use model::Abi;
 use model::Pair;
 use model::Plan;
 use model::Port;
@@ -19,16 +17,13 @@ use model::buffer::RING_BYTES;
 use model::operation::DISCARD;
 use model::operation::FLUSH;
 ghost use mathlib.Core.Path.{_≡_};
-ghost use Prim.Native.Nat.{_+_, _^_, _<_};
-ghost use lib.Dec.{ltb};
+ghost use Prim.Native.Nat.{_^_, _<_};
 ghost use lib.ListN.{length};
 ghost use Rattle.model.specs.Buffers.{ports, ringsLength};
 ghost use Rattle.model.specs.Complete.{expectedOf};
 ghost use Rattle.model.specs.Backend.{viewOf, withPointer};
 ghost use Rattle.model.specs.Deeds.{portAfter};
 ghost use Rattle.model.specs.Plan.{planWords};
-ghost use Rattle.model.specs.Port.{inFlightOf};
-ghost use Rattle.model.specs.Ring.{ringFor};
 ghost use Rattle.model.specs.Turn.{pendingAt, servedBy};
 ghost use Rattle.memory.specs.Backend.{backendOf, Becomes};
 ghost use Rattle.turn.specs.Serve.{Reads, Room, Broke, Began, Declined, Lent, Turns, settledAt, ToServe};
@@ -136,18 +131,6 @@ fn take(
     }
 }
 
-// Whether a distance d is more than the ring has room for beside the requests in flight.
-fn overruns(abi: Abi, marks: u64, d: u32) -> bool
-    requires { ⌜ (d ≡ 0 → ⊥) ⌝ }
-    ensures { λ r. ⌜ r ≡ ltb (ringFor abi .size) (d + inFlightOf marks) ⌝ }
-{
-    let size = ring_size(abi);
-    if size < d {
-        return true;
-    }
-    !marks::at_most(marks, size - d)
-}
-
 // Serves port k, whose req_prod was read as `published`: an overrun breaks it, else its next request is taken.
 // Reads the page only as `take` does.
 pub fn serve(
@@ -162,8 +145,8 @@ pub fn serve(
     ensures { λ r. ⌜ Turns (now (memory .entry)) (now (rings .entry)) (servedBy (viewOf (backendOf (now (memory .entry)))) (now (rings .entry)) (now (grants .entry)) k (pendingAt (viewOf (backendOf (now (memory .entry)))) (now (rings .entry)) k)) (now (rings .exit)) (now (words .exit)) r (now (memory .exit)) ⌝ }
 {
     let d = ring::distance(published, memory::consumed(memory, k));
-    let marks = memory::busy_marks(memory, k);
-    if overruns(memory::abi(memory, k), marks, d) {
+    let busy = memory::busy_marks(memory, k);
+    if marks::overruns(memory::abi(memory, k), busy, d) {
         extents::no_extents(words);
         return overrun(memory, k);
     }

@@ -1,4 +1,4 @@
--- `turn::serve::overruns` meets its contract: the room beside the requests in flight (Taking). Assumes nothing.
+-- `marks::overruns` meets its contract: the room beside the requests in flight (Marks). Assumes nothing.
 use borrow.Author.Needs.{needs}
 use borrow.Author.Tests.{lt-ltb}
 use mathlib.Core.Path.{sym}
@@ -6,9 +6,9 @@ use native.Mathlib.Omega.{arith}
 use Prim.Native.Nat.{_+_}
 use Rattle.model.specs.Port.{inFlightOf}
 use Rattle.model.specs.Ring.{ringFor}
-use Rattle.turn.proofs.Taking.{beside}
-use Rattle.turn.proofs.serve.overruns.Statement.{statement}
-use Rattle.turn.proofs.serve.overruns.Tie as tie
+use Rattle.marks.proofs.Marks.{beside}
+use Rattle.marks.proofs.overruns.Statement.{statement}
+use Rattle.marks.proofs.overruns.Tie as tie
 
 ring-size-requires : tie.Need-ring-size-requires
 ring-size-requires c κs = search needs
