@@ -22,14 +22,93 @@ pub const RSP_EVENT: usize = 12;
 
 /// Slots of a page, and tags of a port.
 pub const SLOTS: usize = 32;
-/// A slot.
+/// A slot of a 64-bit guest; no slot is larger.
 pub const SLOT_BYTES: usize = 112;
+/// A slot of a 32-bit guest.
+pub const SLOT32_BYTES: usize = 108;
 /// A page's header; the slots come after it.
 pub const HEADER_BYTES: usize = 64;
-/// A response.
+/// A response to a 64-bit guest; none is larger.
 pub const RESPONSE_BYTES: usize = 16;
+/// A response to a 32-bit guest.
+pub const RESPONSE32_BYTES: usize = 12;
 /// The most segments a request holds, and so the most extents of a plan.
 pub const EXTENTS: usize = 11;
+
+/// How a guest lays out its requests and responses: the node protocol (rules 1.16 and 3.5).
+#[derive(Clone, Copy, Debug, Default, PartialEq, Eq, Hash)]
+pub enum Abi {
+    /// "x86_64-abi", and what a sheet without that node means.
+    #[default]
+    Bits64,
+    /// "x86_32-abi".
+    Bits32,
+}
+
+impl Abi {
+    /// The body of the node protocol.
+    pub fn protocol(self) -> &'static str {
+        match self {
+            Abi::Bits64 => "x86_64-abi",
+            Abi::Bits32 => "x86_32-abi",
+        }
+    }
+
+    /// The layout that a sheet asks for. Of bytes that `open` would refuse this says nothing.
+    pub fn of_sheet(sheet: &[u8]) -> Abi {
+        let entries = sheet.first().map_or(0, |&count| usize::from(count));
+        let heads = sheet.get(1..).unwrap_or_default().chunks_exact(4);
+        let mut body = 1 + 4 * entries;
+        for head in heads.take(entries) {
+            let end = body + usize::from(u16::from_le_bytes([head[2], head[3]]));
+            let text = sheet.get(body..end).unwrap_or_default();
+            if head[0] == 8 && text == Abi::Bits32.protocol().as_bytes() {
+                return Abi::Bits32;
+            }
+            body = end;
+        }
+        Abi::Bits64
+    }
+
+    /// The bytes of a slot (rule 2.3).
+    pub fn slot_bytes(self) -> usize {
+        match self {
+            Abi::Bits64 => SLOT_BYTES,
+            Abi::Bits32 => SLOT32_BYTES,
+        }
+    }
+
+    /// The bytes of a response (rule 2.10).
+    pub fn response_bytes(self) -> usize {
+        match self {
+            Abi::Bits64 => RESPONSE_BYTES,
+            Abi::Bits32 => RESPONSE32_BYTES,
+        }
+    }
+
+    /// Where a request keeps its id (rule 2.5).
+    pub fn id_at(self) -> usize {
+        match self {
+            Abi::Bits64 => 8,
+            Abi::Bits32 => 4,
+        }
+    }
+
+    /// Where it keeps its start sector.
+    pub fn start_at(self) -> usize {
+        self.id_at() + 8
+    }
+
+    /// Where it keeps its segments, and a discard its sector count (rule 2.8).
+    pub fn segments_at(self) -> usize {
+        self.id_at() + 16
+    }
+
+    /// Where the slot of an index begins in its page (rule 2.4).
+    pub fn slot_at(self, index: u32) -> usize {
+        HEADER_BYTES + self.slot_bytes() * (index as usize % SLOTS)
+    }
+}
 
 /// Reads a little-endian 32-bit number.
 pub fn read_u32(bytes: &[u8], at: usize) -> u32 {
@@ -60,7 +139,7 @@ pub fn page_mut(rings: &mut [u8], port: usize) -> &mut [u8] {
     &mut rings[RING_BYTES * port..][..RING_BYTES]
 }
 
-/// Where the slot of an index begins (rule 2.4).
+/// Where the slot of an index of a 64-bit guest begins (rule 2.4).
 pub fn slot_at(index: u32) -> usize {
-    HEADER_BYTES + SLOT_BYTES * (index as usize % SLOTS)
+    Abi::Bits64.slot_at(index)
 }

@@ -30,6 +30,7 @@ pub mod words;
 pub use answers::{Done, Extent, Plan, Turn};
 pub use backend::Backend;
 pub use ffi::{ArchiveMismatch, Completion, Memory, MEMORY_WORDS, VERSION};
+pub use layout::Abi;
 pub use names::{Name, Port, Serial, Tag};
 pub use sheet::Sheet;
 pub use terms::{Operation, Reason, Refusal, Status};

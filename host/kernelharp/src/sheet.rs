@@ -1,5 +1,7 @@
 //! Node sheets written from a disk's properties.
 
+use crate::layout::Abi;
+
 /// What a port is opened with: the properties of its guest's disk.
 ///
 /// ```
@@ -24,10 +26,12 @@ pub struct Sheet {
     pub sector_size: u32,
     /// Node sectors, of 512 bytes whatever the sector size.
     pub sectors: u64,
+    /// Node protocol: how the guest lays out its requests.
+    pub abi: Abi,
 }
 
 impl Sheet {
-    /// The bytes for `open`. A feature that is off has no node.
+    /// The bytes for `open`. A feature that is off has no node, nor has the 64-bit layout.
     pub fn bytes(&self) -> Vec<u8> {
         let mode = if self.writable { "w" } else { "r" };
         let mut entries = vec![(1, mode.to_string())];
@@ -39,6 +43,9 @@ impl Sheet {
         }
         entries.push((6, self.sector_size.to_string()));
         entries.push((7, self.sectors.to_string()));
+        if self.abi != Abi::default() {
+            entries.push((8, self.abi.protocol().to_string()));
+        }
         contents(&entries)
             .chain(entries.iter().flat_map(|(_, body)| body.bytes()))
             .collect()
@@ -48,7 +55,7 @@ impl Sheet {
 /// The table of contents: the number of entries, then node, zero and body length of each.
 fn contents(entries: &[(u8, String)]) -> impl Iterator<Item = u8> + '_ {
     let heads = entries.iter().flat_map(|(node, body)| {
-        // A body here is a number or a letter.
+        // A body here is a number, a letter or a layout's name.
         [*node, 0, body.len() as u8, 0]
     });
     std::iter::once(entries.len() as u8).chain(heads)
