@@ -103,7 +103,7 @@ fn put_started(answer: &mut [u64; TURN_WORDS], port: PortId, tag: TagId, serial:
         plan.start,
         plan.count,
         yes_no(plan.secure),
-        plan.extents as u64,
+        plan.extents,
         0,
         0,
         0,

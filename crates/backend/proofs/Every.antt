@@ -61,7 +61,7 @@ settled-fits : (v : View) (rings grants : List ℕ) (k : ℕ) (x : Verdict) → 
     → FitsIn (settled v rings k (requestAt v rings k) x)
 unfolding settled requestAt ringFor
 settled-fits v rings grants k (Verdict.Refused n s) e = tt
-settled-fits v rings grants k (Verdict.Start plan) e = expected-fits (v .params k) (grantsOf grants k) _ plan e
+settled-fits v rings grants k (Verdict.Start plan) e = expected-fits (v .params k) _ (grantsOf grants k) _ plan e
 
 served-fits : (v : View) (rings grants : List ℕ) (k : ℕ) (x : Pending) → FitsIn (servedBy v rings grants k x)
 unfolding servedBy idle overran

@@ -61,11 +61,11 @@ fn finish(
     requires { ⌜ TagHeld (backendOf (now memory)) k t p × (length (now rings) ≡ ringsLength) ⌝ }
     ensures { λ r. ⌜ TagFinished (now (memory .entry)) (now (rings .entry)) k t x result (now (rings .exit)) r (now (memory .exit)) ⌝ }
 {
+    release(memory, k, t, p);
     let status = response::status_of(x.expected, result);
     let pair = x.pair;
     let params = p.params;
     let abi = params.abi;
-    release(memory, k, t, p);
     let notify = response::respond(rings, k, abi, p.produced, pair, status);
     Completed::Done(PortId(k as u32), status, notify)
 }

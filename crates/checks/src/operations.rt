@@ -1,5 +1,6 @@
 // Checks 21 to 25: what a request asks for, before any of its segments is looked at. A reason is told as its number, 0 where there is none: as an enum
 // it costs every turn some instructions.
+use layout::COPY_SEGMENTS;
 use layout::REQUEST_COUNT;
 use layout::REQUEST_OPERATION;
 use layout::SLOT_BYTES;
@@ -19,7 +20,8 @@ ghost use mathlib.Core.Path.{_≡_};
 ghost use lib.Dec.{eqb, ltb, leb};
 ghost use lib.ListN.{getD};
 ghost use Rattle.model.specs.Checks.{maxSegments};
-ghost use Rattle.model.specs.Ring.{requestIn, requestOperationAt, discard};
+ghost use Rattle.model.specs.Ring.{requestOperationAt, discard};
+ghost use Rattle.layout.specs.Copy.{requestIn};
 ghost use Rattle.checks.specs.Operations.{operationReason};
 
 // 24 where the disk may not be written; else the reason of the check after it.
@@ -68,11 +70,9 @@ fn discard_amount(count: u64) -> u32
 // 22 to 25 of a discard, or 0.
 fn discard_reason(params: model::Params, slot: &[u8; SLOT_BYTES]) -> u32
     requires { ⌜ getD (now slot) requestOperationAt 0 ≡ discard ⌝ }
-    ensures { λ r. ⌜ r ≡ operationReason params (requestIn params (now (slot .entry))) ⌝ }
+    ensures { λ r. ⌜ r ≡ operationReason params (requestIn (now (slot .entry))) ⌝ }
 {
-    let abi = params.abi;
-    let at = layout::segments_at(abi);
-    let later = discard_amount(wire::u64_at(slot, at));
+    let later = discard_amount(wire::u64_at(slot, COPY_SEGMENTS));
     if !params.discard {
         return FEATURE_OFF;
     }
@@ -87,7 +87,7 @@ fn discard_reason(params: model::Params, slot: &[u8; SLOT_BYTES]) -> u32
 
 // The first of the checks 21 to 25 that the request fails, or 0. Each operation has its tests to itself, in number order.
 pub fn operation_reason(params: model::Params, slot: &[u8; SLOT_BYTES]) -> u32
-    ensures { λ r. ⌜ r ≡ operationReason params (requestIn params (now (slot .entry))) ⌝ }
+    ensures { λ r. ⌜ r ≡ operationReason params (requestIn (now (slot .entry))) ⌝ }
 {
     let operation = slot[REQUEST_OPERATION];
     let n = slot[REQUEST_COUNT];

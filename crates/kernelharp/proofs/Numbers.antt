@@ -10,7 +10,7 @@ use Rattle.model.specs.Base.{same}
 use Rattle.model.specs.Buffers.{ports, areRings, areGrants}
 use Rattle.model.specs.Calls.{TurnEffect, CompleteEffect}
 use Rattle.model.specs.Complete.{completed}
-use Rattle.model.specs.NodeSheet.{Entry, entriesOf, wellFormed, rising, protocol64, hasRequired, valuesOf, paramsOf, choiceBody, numberBody, protocolBody, bodyOf, afterBody, afterBodies, sheetOf}
+use Rattle.model.specs.NodeSheet.{Entry, entriesOf, wellFormed, rising, hasRequired, valuesOf, paramsOf, choiceBody, numberBody, bodyOf, afterBody, afterBodies, sheetOf}
 use Rattle.model.specs.Port.{View, isClosed}
 use Rattle.model.specs.Ring.{Request}
 use Rattle.model.specs.Rules.{noPort, namesNone, openedBy, refusedCompletion, dueOpen, dueClose, dueTurn, dueComplete}
@@ -50,16 +50,12 @@ choice-numbered text off on =
     by-cond NumberedBody (same text off) _ _ (λ _. tt) (λ _.
     by-cond NumberedBody (same text on) (Body.Value 1) (Body.Refused 13) (λ _. tt) (λ _ z. omega arith))
 
-protocol-numbered : (text : List ℕ) → NumberedBody (protocolBody text)
-unfolding protocolBody
-protocol-numbered text = by-cond NumberedBody (same text protocol64) (Body.Value 0) (Body.Refused 13) (λ _. tt) (λ _ z. omega arith)
-
 body-numbered : (node : ℕ) (text : List ℕ) → NumberedBody (bodyOf node text)
 unfolding bodyOf
 body-numbered node text =
     by-cond NumberedBody (eqb node 1) _ _ (λ _. choice-numbered text _ _) (λ _.
     by-cond NumberedBody (leb node 5) _ _ (λ _. choice-numbered text _ _) (λ _.
-    by-cond NumberedBody (eqb node 8) _ _ (λ _. protocol-numbered text) (λ _. number-numbered _ _)))
+    by-cond NumberedBody (eqb node 8) _ _ (λ _. choice-numbered text _ _) (λ _. number-numbered _ _)))
 
 after-numbered : (b : Body) (then : Sheet) → NumberedBody b → NumberedSheet then → NumberedSheet (afterBody b then)
 unfolding afterBody

@@ -4,7 +4,8 @@ ghost use mathlib.Core.Path.{_≡_};
 ghost use Prim.Native.Nat.{_+_, _*_, _<_, _≤_};
 ghost use Rattle.model.specs.Checks.{maxSegments};
 ghost use Rattle.model.specs.Port.{busyBits};
-ghost use Rattle.model.specs.Ring.{layoutOf, ringFor, segmentSize, slotBytes};
+ghost use Rattle.model.specs.Ring.{layoutOf, ringFor, restSize, segmentSize, slotBytes};
+ghost use Rattle.layout.specs.Copy.{copyLayout};
 
 // The bytes of the header, and where its four fields stand, four bytes each (rule 2.2).
 pub const HEADER_BYTES: usize = 64;
@@ -27,6 +28,19 @@ pub const SLOTS: u32 = 32;
 pub const REQUEST_OPERATION: usize = 0;
 
 pub const REQUEST_COUNT: usize = 1;
+
+// A request's bytes before its id, of which the last two are its handle in every layout (rule 2.5), and those from its id on.
+pub const HEAD_BYTES: usize = 4;
+
+pub const REST_BYTES: usize = 104;
+
+// A copied request has the 64-bit layout, whatever its guest's: where it keeps its id, its start sector, and its segments or a discard's sector count
+// (rules 2.5 and 2.8).
+pub const COPY_ID: usize = 8;
+
+pub const COPY_START: usize = 16;
+
+pub const COPY_SEGMENTS: usize = 24;
 
 // The bytes of a segment, which begins with its frame, and where its first and last sector stand in it (rule 2.6).
 pub const SEGMENT_BYTES: usize = 8;
@@ -55,40 +69,24 @@ pub fn slot_size(abi: Abi) -> usize
 {
     match abi {
         Abi::Bits64 => SLOT_BYTES,
+        Abi::Bits32 => 108,
     }
 }
 
-// Where a request keeps its id.
+// Where a request keeps its id. From there on all layouts are the same.
 pub fn id_at(abi: Abi) -> usize
-    ensures { λ r. ⌜ (r ≡ layoutOf abi .idAt) × (r + 8 ≤ slotBytes) ⌝ }
+    ensures { λ r. ⌜ (r ≡ layoutOf abi .idAt) × (r + restSize ≤ slotBytes) ⌝ }
 {
     match abi {
-        Abi::Bits64 => 8,
+        Abi::Bits64 => COPY_ID,
+        Abi::Bits32 => 4,
     }
 }
 
-// Where it keeps its start sector.
-pub fn start_at(abi: Abi) -> usize
-    ensures { λ r. ⌜ (r ≡ layoutOf abi .startAt) × (r + 8 ≤ slotBytes) ⌝ }
-{
-    match abi {
-        Abi::Bits64 => 16,
-    }
-}
-
-// Where it keeps its segments, and a discard its sector count.
-pub fn segments_at(abi: Abi) -> usize
-    ensures { λ r. ⌜ (r ≡ layoutOf abi .segmentsAt) × (r + segmentSize * maxSegments ≤ slotBytes) ⌝ }
-{
-    match abi {
-        Abi::Bits64 => 24,
-    }
-}
-
-// Where it keeps segment i.
-pub fn segment_at(abi: Abi, i: usize) -> usize
+// Where a copy keeps segment i.
+pub fn segment_at(i: usize) -> usize
     requires { ⌜ i < maxSegments ⌝ }
-    ensures { λ r. ⌜ (r ≡ layoutOf abi .segmentsAt + segmentSize * i) × (r + segmentSize ≤ slotBytes) ⌝ }
+    ensures { λ r. ⌜ (r ≡ copyLayout .segmentsAt + segmentSize * i) × (r + segmentSize ≤ slotBytes) ⌝ }
 {
-    segments_at(abi) + SEGMENT_BYTES * i
+    COPY_SEGMENTS + SEGMENT_BYTES * i
 }

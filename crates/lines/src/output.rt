@@ -44,10 +44,10 @@ fn refused(n: u32) {
 }
 
 // The words of n extents, and those of unused places where one is not zero.
-fn extents(answer: &[u64; TURN_WORDS], n: u32) {
+fn extents(answer: &[u64; TURN_WORDS], n: u64) {
     let mut i: usize = 0;
     while i < PLAN_WORDS {
-        if i < EXTENT_WORDS * (n as usize) || answer[TURN_EXTENTS + i] != 0 {
+        if ((i / EXTENT_WORDS) as u64) < n || answer[TURN_EXTENTS + i] != 0 {
             if i % EXTENT_WORDS == 0 {
                 text(b" |");
             }
@@ -68,7 +68,7 @@ fn plan(p: Plan) {
         text(b" secure");
     }
     text(b" extents");
-    word(p.extents as u64);
+    word(p.extents);
 }
 
 fn started(port: PortId, tag: TagId, serial: Serial) {

@@ -36,6 +36,10 @@ sector-last (suc zero) h l o = absurd (l refl)
 sector-last (suc (suc zero)) h l o = absurd (o refl)
 sector-last (suc (suc (suc n))) h l o = refl
 
+pub abi-other : (n : ℕ) → (n ≡ 0 → ⊥) → Abi.Bits32 ≡ abiOf n
+abi-other zero h = absurd (h refl)
+abi-other (suc n) h = refl
+
 pub state-back : (s : State) → stateOf (stateWord s) ≡ s
 state-back State.Closed = refl
 state-back State.Open = refl
@@ -51,11 +55,9 @@ sector-back SectorSize.Bytes1024 = refl
 sector-back SectorSize.Bytes2048 = refl
 sector-back SectorSize.Bytes4096 = refl
 
-pub abi-zero : (a : Abi) → 0 ≡ abiWord a
-abi-zero Abi.Bits64 = refl
-
 abi-back : (a : Abi) → abiOf (abiWord a) ≡ a
 abi-back Abi.Bits64 = refl
+abi-back Abi.Bits32 = refl
 
 -- ---- runs of words
 
@@ -103,6 +105,7 @@ port-agree v w h =
       h 5 (omega arith),
       h 6 (omega arith),
       h 7 (omega arith),
+      h 8 (omega arith),
       h 9 (omega arith),
       h 10 (omega arith),
       h 11 (omega arith),

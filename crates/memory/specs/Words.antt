@@ -58,12 +58,14 @@ sectorWord SectorSize.Bytes1024 = 1
 sectorWord SectorSize.Bytes2048 = 2
 sectorWord SectorSize.Bytes4096 = 3
 
--- a layout: there is one, and its word is 0 (rule 14.3)
+-- a layout: 0 is the 64-bit one, anything else the 32-bit one (rule 14.3)
 abbrev pub abiOf : ℕ → Abi
-abiOf x = Abi.Bits64
+abiOf zero = Abi.Bits64
+abiOf (suc n) = Abi.Bits32
 
 abbrev pub abiWord : Abi → ℕ
 abiWord Abi.Bits64 = 0
+abiWord Abi.Bits32 = 1
 
 -- a number of 8 or 32 bits: modulo its width (rule 14.3)
 abbrev pub narrow8 : ℕ → ℕ

@@ -56,7 +56,10 @@ pub fn sector_word(s: SectorSize) -> u64
 pub fn abi_of(x: u64) -> Abi
     ensures { λ r. ⌜ r ≡ abiOf x ⌝ }
 {
-    Abi::Bits64
+    match x {
+        0 => Abi::Bits64,
+        _ => Abi::Bits32,
+    }
 }
 
 pub fn abi_word(a: Abi) -> u64
@@ -64,5 +67,6 @@ pub fn abi_word(a: Abi) -> u64
 {
     match a {
         Abi::Bits64 => 0,
+        Abi::Bits32 => 1,
     }
 }

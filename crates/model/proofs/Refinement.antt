@@ -172,7 +172,7 @@ unfolding requestAt viewOf asked
 tied-asked b k c lent w = rw (w .params, w .consumed, slotOf-modulus (ringIn c) (fits (c .params)) (pageOf lent k))
 
 -- what is put is read back, and the others stay
-own-port : (b : Backend) (k : ℕ) (p : Port) → withPort b k p .port k ≡ p
+pub own-port : (b : Backend) (k : ℕ) (p : Port) → withPort b k p .port k ≡ p
 unfolding withPort
 own-port b k p = rw (eq-eqb k k refl)
 

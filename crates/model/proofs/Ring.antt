@@ -1,14 +1,17 @@
 -- What the rules ask of a ring's numbers, for every port's params: proved by cases on their enums, so that no port has to keep numbers that fit. And where
 -- the slots of such a ring lie.
-use mathlib.Core.Path.{_≡_, refl, ap, subst}
-use mathlib.Core.List.{List}
-use Prim.Native.Nat.{ℕ, _+_, _*_, _%_, _≤_, _<_}
+use mathlib.Core.Path.{_≡_, refl, ap, subst, _∙_}
+use mathlib.Core.List.{List, _∷_}
+use Prim.Native.Nat.{ℕ, zero, suc, _+_, _*_, _%_, _≤_, _<_}
 use native.Mathlib.Nat.{mod-mod-of-dvd, dvd-of-mod-eq-zero, mod-lt, mul-le-mul-left, mul-suc}
 use native.Mathlib.Omega.{arith}
+use lib.ListN.{getD}
+use Rattle.wire.specs.LittleEndian.{load}
 use Rattle.wire.specs.Part.{part}
+use Rattle.wire.proofs.LittleEndian.{load-shift}
 use Rattle.model.specs.Base.{modulus}
 use Rattle.model.specs.Buffers.{pageShare}
-use Rattle.model.specs.Ring.{Ring, headerSize, slotBytes, segmentSize, responsePaddingAt, layoutOf, ringFor, ringOf, slotAt, slotOf}
+use Rattle.model.specs.Ring.{Layout, Ring, headerSize, ringSlots, restSize, segmentSize, segmentFirstAt, segmentLastAt, requestOperationAt, requestCountAt, responsePaddingAt, ringFor, ringOf, slotAt, slotOf, segmentOf, segmentsOf, requestOf}
 use Rattle.model.specs.Port.{busyBits}
 use Rattle.model.specs.Checks.{maxSegments}
 use Rattle.model.specs.declared.Abi.{Abi}
@@ -27,10 +30,15 @@ pub record Fits (g : Ring) : Type 0 where
   pub segmentRoom : g .layout .segmentsAt + segmentSize * maxSegments ≤ g .layout .slotSize
   pub statusRoom : responsePaddingAt ≤ g .layout .responseSize
   pub responseRoom : g .layout .responseSize ≤ g .layout .slotSize
+  -- from its id on, a request has the same bytes in every layout
+  pub startPlace : g .layout .startAt ≡ g .layout .idAt + 8
+  pub segmentsPlace : g .layout .segmentsAt ≡ g .layout .idAt + 16
+  pub slotEnd : g .layout .slotSize ≡ g .layout .idAt + restSize
 
-pub fits-for : (a : Abi) → Fits (ringFor a)
-unfolding ringFor
-fits-for Abi.Bits64 = record {
+-- so these numbers of a layout settle the others
+fits-from : (l : Layout) → l .startAt ≡ l .idAt + 8 → l .segmentsAt ≡ l .idAt + 16 → l .slotSize ≡ l .idAt + restSize → l .idAt ≤ 8
+    → responsePaddingAt ≤ l .responseSize → l .responseSize ≤ restSize → Fits (record { layout = l; size = ringSlots })
+fits-from l start segments slot id status response = record {
   some = omega arith;
   whole = refl;
   marked = omega arith;
@@ -38,13 +46,17 @@ fits-for Abi.Bits64 = record {
   idRoom = omega arith;
   startRoom = omega arith;
   segmentRoom = omega arith;
-  statusRoom = omega arith;
+  statusRoom = status;
   responseRoom = omega arith;
+  startPlace = start;
+  segmentsPlace = segments;
+  slotEnd = slot;
 }
 
--- every slot is as long as the largest
-pub slot-place : (a : Abi) → slotBytes ≡ layoutOf a .slotSize
-slot-place Abi.Bits64 = refl
+pub fits-for : (a : Abi) → Fits (ringFor a)
+unfolding ringFor
+fits-for Abi.Bits64 = fits-from _ refl refl refl (omega arith) (omega arith) (omega arith)
+fits-for Abi.Bits32 = fits-from _ refl refl refl (omega arith) (omega arith) (omega arith)
 
 pub fits : (p : Params) → Fits (ringOf p)
 fits p = fits-for (p .abi)
@@ -73,3 +85,39 @@ module _ (g : Ring) (f : Fits g) where
   pub slotAt-header : (i : ℕ) → headerSize ≤ slotAt g i
   unfolding slotAt
   slotAt-header i = omega arith
+
+-- ---- one request in two layouts
+
+-- bytes that agree up to the handle, and from the id on, spell one request, each in its own layout
+module _ (g h : Ring) (f : Fits g) (e : Fits h) (a b : List ℕ) (head : (i : ℕ) → i < 4 → getD a i 0 ≡ getD b i 0)
+    (rest : (i : ℕ) → getD a (g .layout .idAt + i) 0 ≡ getD b (h .layout .idAt + i) 0) where
+  byte-same : (x y i : ℕ) → x ≡ g .layout .idAt + i → y ≡ h .layout .idAt + i → getD a x 0 ≡ getD b y 0
+  byte-same x y i p q = rw (p, q) (rest i)
+
+  number-same : (x y i : ℕ) → x ≡ g .layout .idAt + i → y ≡ h .layout .idAt + i → load 8 a x ≡ load 8 b y
+  number-same x y i p q = load-shift 8 a b x y (λ j k. byte-same (x + j) (y + j) (i + j) (omega arith) (omega arith))
+
+  segment-same : (n : ℕ) → segmentOf (g .layout) a n ≡ segmentOf (h .layout) b n
+  unfolding segmentOf
+  segment-same n =
+      let x = g .layout .segmentsAt + segmentSize * n in
+      let y = h .layout .segmentsAt + segmentSize * n in
+      let byte : (j : ℕ) → getD a (x + j) 0 ≡ getD b (y + j) 0 =
+      λ j. byte-same (x + j) (y + j) (16 + segmentSize * n + j) (omega (arith, f .segmentsPlace)) (omega (arith, e .segmentsPlace)) in
+      λ i. record { frame = load-shift 4 a b x y (λ j k. byte j) i; first = byte segmentFirstAt i; last = byte segmentLastAt i }
+
+  segments-same : (n j : ℕ) → segmentsOf n (g .layout) a j ≡ segmentsOf n (h .layout) b j
+  unfolding segmentsOf
+  segments-same zero j = refl
+  segments-same (suc n) j = λ i. segment-same j i ∷ segments-same n (suc j) i
+
+  pub request-same : requestOf (g .layout) a ≡ requestOf (h .layout) b
+  unfolding requestOf
+  request-same = λ i. record {
+    pair = record { id = number-same (g .layout .idAt) (h .layout .idAt) 0 (omega arith) (omega arith) i; operation = head requestOperationAt (omega arith) i };
+    n = head requestCountAt (omega arith) i;
+    flag = head requestCountAt (omega arith) i;
+    start = number-same _ _ 8 (f .startPlace) (e .startPlace) i;
+    segments = (segments-same _ 0 ∙ ap (λ (n : ℕ). segmentsOf n (h .layout) b 0) (head requestCountAt (omega arith))) i;
+    sectors = number-same _ _ 16 (f .segmentsPlace) (e .segmentsPlace) i;
+  }

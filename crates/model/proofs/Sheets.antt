@@ -7,7 +7,7 @@ use lib.ListN.{length, replicate}
 use Rattle.wire.specs.LittleEndian.{load}
 use Rattle.wire.specs.Part.{part}
 use Rattle.model.specs.Base.{all, same}
-use Rattle.model.specs.NodeSheet.{Entry, entryAt, bodyLength, entriesFrom, entriesOf, bodiesEnd, wellFormed, rising, isDigit, digitsFrom, capped, digitsOf, numberOf, choiceBody, numberBody, isSectorSize, isAllowed, protocolBody, bodyOf, afterBody, afterBodies, valueOf, absent, valuesOf, present, paramsOf, hasRequired, sheetOf}
+use Rattle.model.specs.NodeSheet.{Entry, entryAt, bodyLength, entriesFrom, entriesOf, bodiesEnd, wellFormed, rising, isDigit, digitsFrom, capped, digitsOf, numberOf, choiceBody, numberBody, isSectorSize, isAllowed, bodyOf, afterBody, afterBodies, valueOf, absent, valuesOf, present, paramsOf, hasRequired, sheetOf}
 use Rattle.model.specs.declared.Abi.{Abi}
 use Rattle.model.specs.declared.Params.{Params}
 use Rattle.model.specs.declared.SectorSize.{SectorSize}
@@ -76,8 +76,8 @@ refused =
     ∷ judged 13 (laid (node 1 (120 ∷ []) ∷ size512 ∷ sectors2008 ∷ []))
     -- discard-secure "2"
     ∷ judged 13 (laid (writable ∷ node 5 (50 ∷ []) ∷ size512 ∷ sectors2008 ∷ []))
-    -- protocol "x86_32-abi"
-    ∷ judged 13 (laid (writable ∷ size512 ∷ sectors2008 ∷ node 8 (120 ∷ 56 ∷ 54 ∷ 95 ∷ 51 ∷ 50 ∷ 45 ∷ 97 ∷ 98 ∷ 105 ∷ []) ∷ []))
+    -- protocol "x86_32-ab"
+    ∷ judged 13 (laid (writable ∷ size512 ∷ sectors2008 ∷ node 8 (120 ∷ 56 ∷ 54 ∷ 95 ∷ 51 ∷ 50 ∷ 45 ∷ 97 ∷ 98 ∷ []) ∷ []))
     -- sectors ""
     ∷ judged 13 (laid (writable ∷ size512 ∷ node 7 [] ∷ []))
     -- sectors "02008"
@@ -103,9 +103,9 @@ refused =
     ∷ judged 15 (laid (writable ∷ size512 ∷ []))
     ∷ []
 
--- a writable disk with no feature
-abbrev disk : ℕ → Params
-disk sectors = record {
+-- a writable disk with no feature, for a guest of a layout
+abbrev disk : Abi → ℕ → Params
+disk abi sectors = record {
   writable = true;
   barrier = false;
   flush = false;
@@ -113,7 +113,7 @@ disk sectors = record {
   secure = false;
   sector = SectorSize.Bytes512;
   sectors = sectors;
-  abi = Abi.Bits64;
+  abi = abi;
 }
 
 record Computed : Type 0 where
@@ -121,9 +121,11 @@ record Computed : Type 0 where
   -- the worked sheet (rule 3.12)
   whole :
       sheetOf (0x03 ∷ 0x01 ∷ 0x00 ∷ 0x01 ∷ 0x00 ∷ 0x06 ∷ 0x00 ∷ 0x03 ∷ 0x00 ∷ 0x07 ∷ 0x00 ∷ 0x04 ∷ 0x00 ∷ 0x77 ∷ 0x35 ∷ 0x31 ∷ 0x32 ∷ 0x32 ∷ 0x30 ∷ 0x30 ∷ 0x38 ∷ [])
-      ≡ Sheet.Read (disk 2008)
+      ≡ Sheet.Read (disk Abi.Bits64 2008)
   -- a disk without sectors is one (rule 3.5)
-  noSectors : sheetOf (laid (writable ∷ size512 ∷ node 7 (48 ∷ []) ∷ [])) ≡ Sheet.Read (disk 0)
+  noSectors : sheetOf (laid (writable ∷ size512 ∷ node 7 (48 ∷ []) ∷ [])) ≡ Sheet.Read (disk Abi.Bits64 0)
+  -- a 32-bit guest's (rule 3.5)
+  narrow : sheetOf (laid (writable ∷ size512 ∷ sectors2008 ∷ node 8 (120 ∷ 56 ∷ 54 ∷ 95 ∷ 51 ∷ 50 ∷ 45 ∷ 97 ∷ 98 ∷ 105 ∷ []) ∷ [])) ≡ Sheet.Read (disk Abi.Bits32 2008)
   -- every node, with the largest number of sectors
   everyNode :
       sheetOf (laid (writable ∷ node 2 (49 ∷ []) ∷ node 3 (48 ∷ []) ∷ node 4 (49 ∷ []) ∷ node 5 (49 ∷ []) ∷ node 6 (52 ∷ 48 ∷ 57 ∷ 54 ∷ []) ∷ node 7 (49 ∷ 56 ∷ 52 ∷ 52 ∷ 54 ∷ 55 ∷ 52 ∷ 52 ∷ 48 ∷ 55 ∷ 51 ∷ 55 ∷ 48 ∷ 57 ∷ 53 ∷ 53 ∷ 49 ∷ 54 ∷ 49 ∷ 53 ∷ []) ∷ node 8 (120 ∷ 56 ∷ 54 ∷ 95 ∷ 54 ∷ 52 ∷ 45 ∷ 97 ∷ 98 ∷ 105 ∷ []) ∷ node 9 (48 ∷ []) ∷ []))
@@ -139,5 +141,5 @@ record Computed : Type 0 where
       })
 
 computed : Computed
-unfolding contents bodies laid refused load part all same entryAt bodyLength entriesFrom entriesOf bodiesEnd wellFormed rising isDigit digitsFrom capped digitsOf numberOf choiceBody numberBody isSectorSize isAllowed protocolBody bodyOf afterBody afterBodies valueOf absent valuesOf present paramsOf hasRequired sheetOf
-computed = record { refusals = refl; whole = refl; noSectors = refl; everyNode = refl }
+unfolding contents bodies laid refused load part all same entryAt bodyLength entriesFrom entriesOf bodiesEnd wellFormed rising isDigit digitsFrom capped digitsOf numberOf choiceBody numberBody isSectorSize isAllowed bodyOf afterBody afterBodies valueOf absent valuesOf present paramsOf hasRequired sheetOf
+computed = record { refusals = refl; whole = refl; noSectors = refl; narrow = refl; everyNode = refl }

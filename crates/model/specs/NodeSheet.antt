@@ -109,13 +109,12 @@ numberBody allowed Number.NotANumber = Body.Refused 13
 unfoldable pub isSectorSize : ℕ → Bool
 isSectorSize v = eqb v 512 || eqb v 1024 || eqb v 2048 || eqb v 4096
 
--- the text "x86_64-abi" (rule 3.5)
+-- the texts "x86_64-abi" and "x86_32-abi" (rule 3.5)
 abbrev pub protocol64 : List ℕ
 protocol64 = 120 ∷ 56 ∷ 54 ∷ 95 ∷ 54 ∷ 52 ∷ 45 ∷ 97 ∷ 98 ∷ 105 ∷ []
 
--- that text, and no other (rules 3.5 and 7.13)
-unfoldable pub protocolBody : List ℕ → Body
-protocolBody text = cond (same text protocol64) (Body.Value 0) (Body.Refused 13)
+abbrev pub protocol32 : List ℕ
+protocol32 = 120 ∷ 56 ∷ 54 ∷ 95 ∷ 51 ∷ 50 ∷ 45 ∷ 97 ∷ 98 ∷ 105 ∷ []
 
 -- which numbers may stand at a node: a sector size, any count of sectors, page order 0 (rules 3.5 and 7.14)
 unfoldable pub isAllowed : ℕ → ℕ → Bool
@@ -127,7 +126,7 @@ bodyOf node text =
     firstOf
     (eqb node 1 ⇒ choiceBody text (114 ∷ []) (119 ∷ [])
     ∷ leb node 5 ⇒ choiceBody text (48 ∷ []) (49 ∷ [])
-    ∷ eqb node 8 ⇒ protocolBody text
+    ∷ eqb node 8 ⇒ choiceBody text protocol64 protocol32
     ∷ [])
     (numberBody (isAllowed node) (numberOf text))
 
@@ -175,6 +174,10 @@ valuesOf es node = valueOf node (absent node) es
 abbrev pub isOn : ℕ → Bool
 isOn v = eqb v 1
 
+-- the layout of a protocol (rules 1.16 and 3.5)
+abbrev pub abiFor : ℕ → Abi
+abiFor v = cond (isOn v) Abi.Bits32 Abi.Bits64
+
 -- what the values of the nodes say of a port (rule 3.5)
 unfoldable pub paramsOf : (ℕ → ℕ) → Params
 paramsOf value = record {
@@ -185,7 +188,7 @@ paramsOf value = record {
   secure = isOn (value 5);
   sector = sectorSizeOf (value 6);
   sectors = value 7;
-  abi = Abi.Bits64;
+  abi = abiFor (value 8);
 }
 
 -- the nodes that no sheet may lack (rules 3.6 and 7.15)

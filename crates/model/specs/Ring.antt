@@ -42,7 +42,7 @@ setRspProd page v = store 4 page rspProdAt v
 unfoldable pub rspEvent : List ℕ → ℕ
 rspEvent page = load 4 page rspEventAt
 
--- the bytes of the largest slot, that of the 64-bit layout (rule 2.3)
+-- the bytes of the largest slot (rule 2.3)
 abbrev pub slotBytes : ℕ
 slotBytes = 112
 
@@ -55,9 +55,14 @@ pub record Layout : Type 0 where
   pub segmentsAt : ℕ
   pub responseSize : ℕ
 
--- the 64-bit layout (rule 1.16)
+-- the two layouts (rule 1.16)
 abbrev pub layoutOf : Abi → Layout
 layoutOf Abi.Bits64 = record { slotSize = slotBytes; idAt = 8; startAt = 16; segmentsAt = 24; responseSize = 16 }
+layoutOf Abi.Bits32 = record { slotSize = 108; idAt = 4; startAt = 12; segmentsAt = 20; responseSize = 12 }
+
+-- the bytes of a request from its id on, which have one order in both layouts (rules 2.5 and 2.8)
+abbrev pub restSize : ℕ
+restSize = 104
 
 -- A port's ring: its layout, and how many slots it has (rule 2.3).
 pub record Ring : Type 0 where
@@ -134,10 +139,6 @@ requestOf l slot = record {
   segments = segmentsOf (getD slot requestCountAt 0) l slot 0;
   sectors = load 8 slot (l .segmentsAt);
 }
-
--- the request that a slot's bytes spell in a port's layout (rules 2.5 and 2.8)
-abbrev pub requestIn : Params → List ℕ → Request
-requestIn p slot = requestOf (layoutOf (p .abi)) slot
 
 -- a status as a number (rule 2.12); `negsuc n` is -(n + 1)
 abbrev pub statusNumber : Status → ℤ

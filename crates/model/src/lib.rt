@@ -21,6 +21,7 @@ pub struct Serial(pub u32);
 // How a guest lays out requests and responses (rule 1.16).
 pub enum Abi {
     Bits64,
+    Bits32,
 }
 
 // The disk's sector size, in bytes (rule 3.5).
@@ -118,7 +119,7 @@ pub struct Plan {
     pub start: u64,
     pub count: u64,
     pub secure: bool,
-    pub extents: u32,
+    pub extents: u64,
 }
 
 // What checks say of a request: it passes them all, or the number of the first that it fails, with the status due (rule 8.2).

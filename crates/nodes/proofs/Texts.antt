@@ -10,7 +10,7 @@ use lib.Seq.{drop-cons, drop-length}
 use lib.Dec.{eqb}
 use borrow.Author.Tests.{eq-eqb, ne-eqb, le-leb, lt-leb}
 use Rattle.model.specs.Base.{same}
-use Rattle.model.specs.NodeSheet.{numberOf, choiceBody, numberBody, isAllowed, protocolBody, bodyOf}
+use Rattle.model.specs.NodeSheet.{numberOf, choiceBody, numberBody, isAllowed, protocol64, protocol32, bodyOf}
 
 -- ---- two texts
 
@@ -58,7 +58,7 @@ pub body-feature : (node : ℕ) (text : List ℕ) → (node ≡ 1 → ⊥) → n
 unfolding bodyOf
 body-feature node text n l = rw (ne-eqb node 1 n, le-leb node 5 l)
 
-pub body-protocol : (node : ℕ) (text : List ℕ) → node ≡ 8 → protocolBody text ≡ bodyOf node text
+pub body-protocol : (node : ℕ) (text : List ℕ) → node ≡ 8 → choiceBody text protocol64 protocol32 ≡ bodyOf node text
 unfolding bodyOf
 body-protocol node text e = rw e
 

@@ -15,6 +15,7 @@ use model::node::DISCARD_SECURE;
 use model::node::FLUSH;
 use model::node::MODE;
 use model::node::PLACES;
+use model::node::PROTOCOL;
 use model::node::SECTOR_SIZE;
 use model::node::SECTORS;
 use model::refusal::SHEET_MISSING;
@@ -22,7 +23,7 @@ use model::refusal::SHEET_NODES;
 use model::refusal::SHEET_SHAPE;
 ghost use mathlib.Core.Path.{_≡_};
 ghost use lib.ListN.{getD};
-ghost use Rattle.model.specs.NodeSheet.{entriesOf, sectorSizeOf, paramsOf, hasRequired, sheetOf};
+ghost use Rattle.model.specs.NodeSheet.{entriesOf, sectorSizeOf, abiFor, paramsOf, hasRequired, sheetOf};
 ghost use Rattle.contents.specs.Contents.{Contents};
 
 mod bodies;
@@ -43,7 +44,17 @@ fn sector_size(v: u64) -> SectorSize
     SectorSize::Bytes512
 }
 
-// What the values of the nodes say of a port. The protocol has one layout, and the page order one size.
+// The layout of a protocol.
+fn abi_for(v: u64) -> Abi
+    ensures { λ r. ⌜ r ≡ abiFor v ⌝ }
+{
+    if v == 1 {
+        return Abi::Bits32;
+    }
+    Abi::Bits64
+}
+
+// What the values of the nodes say of a port. The page order has one size.
 fn params_of(values: [u64; PLACES]) -> Params
     ensures { λ r. ⌜ r ≡ paramsOf (λ node. getD values node 0) ⌝ }
 {
@@ -55,7 +66,7 @@ fn params_of(values: [u64; PLACES]) -> Params
         secure: values[DISCARD_SECURE] == 1,
         sector: sector_size(values[SECTOR_SIZE]),
         sectors: values[SECTORS],
-        abi: Abi::Bits64,
+        abi: abi_for(values[PROTOCOL]),
     }
 }
 

@@ -11,7 +11,7 @@ use model::refusal::SHEET_NUMBER;
 use model::refusal::SHEET_TEXT;
 ghost use mathlib.Core.Path.{_≡_};
 ghost use Rattle.model.specs.Base.{same};
-ghost use Rattle.model.specs.NodeSheet.{choiceBody, isSectorSize, protocolBody, numberBody, isAllowed, numberOf, bodyOf};
+ghost use Rattle.model.specs.NodeSheet.{choiceBody, isSectorSize, numberBody, isAllowed, numberOf, bodyOf};
 
 // Whether a text is the one asked for.
 fn is_text(text: &[u8], asked: &[u8]) -> bool
@@ -39,15 +39,6 @@ fn choice_body(text: &[u8], off: &[u8], on: &[u8]) -> Body
     }
     if is_text(text, on) {
         return Body::Value(1);
-    }
-    Body::Refused(SHEET_TEXT)
-}
-
-fn protocol_body(text: &[u8]) -> Body
-    ensures { λ r. ⌜ r ≡ protocolBody (now (text .entry)) ⌝ }
-{
-    if is_text(text, b"x86_64-abi") {
-        return Body::Value(0);
     }
     Body::Refused(SHEET_TEXT)
 }
@@ -108,7 +99,7 @@ pub fn read_body(node: usize, text: &[u8]) -> Body
         return choice_body(text, b"0", b"1");
     }
     if node == PROTOCOL {
-        return protocol_body(text);
+        return choice_body(text, b"x86_64-abi", b"x86_32-abi");
     }
     number_body(node, text)
 }

@@ -7,7 +7,7 @@ use Prim.Native.Nat.{ℕ, _^_, _<_, _≤_}
 use native.Mathlib.Decide.{ℕ-discrete}
 use native.Mathlib.Omega.{arith}
 use lib.ListN.{length}
-use Rattle.model.specs.Ring.{layoutOf, requestOf, requestIn}
+use Rattle.model.specs.Ring.{Layout, requestOf}
 use Rattle.model.specs.Checks.{movesNothing, totalSectors, countOf, unknownOperation, wrongAmount, wrongSegment, operationChecks, segmentChecks, checks}
 use Rattle.model.specs.Complete.{expectedOf}
 use Rattle.model.specs.Plan.{planOf, verdictOf}
@@ -18,48 +18,48 @@ use Rattle.segments.proofs.Slot.{length-segments, within-total}
 use Rattle.checks.proofs.Steps.{none-fails, all-passed}
 use Rattle.request.proofs.Verdict.{few-segments}
 
-module _ (q : Params) (grants slot : List ℕ) (plan : Plan) (e : verdictOf q grants (requestIn q slot) ≡ Verdict.Start plan) where
-  known : unknownOperation (requestIn q slot) ≡ false
+module _ (q : Params) (l : Layout) (grants slot : List ℕ) (plan : Plan) (e : verdictOf q grants (requestOf l slot) ≡ Verdict.Start plan) where
+  known : unknownOperation (requestOf l slot) ≡ false
   unfolding checks operationChecks
-  known = none-fails (checks q grants (requestIn q slot)) 0 (all-passed q grants (requestIn q slot) plan e .0)
+  known = none-fails (checks q grants (requestOf l slot)) 0 (all-passed q grants (requestOf l slot) plan e .0)
 
-  amount : wrongAmount (requestIn q slot) ≡ false
+  amount : wrongAmount (requestOf l slot) ≡ false
   unfolding checks operationChecks
-  amount = none-fails (checks q grants (requestIn q slot)) 4 (all-passed q grants (requestIn q slot) plan e .0)
+  amount = none-fails (checks q grants (requestOf l slot)) 4 (all-passed q grants (requestOf l slot) plan e .0)
 
-  within : wrongSegment (requestIn q slot) ≡ false
+  within : wrongSegment (requestOf l slot) ≡ false
   unfolding checks operationChecks segmentChecks
-  within = none-fails (checks q grants (requestIn q slot)) 5 (all-passed q grants (requestIn q slot) plan e .0)
+  within = none-fails (checks q grants (requestOf l slot)) 5 (all-passed q grants (requestOf l slot) plan e .0)
 
-  segment-count : length (requestIn q slot .segments) ≡ requestIn q slot .n
+  segment-count : length (requestOf l slot .segments) ≡ requestOf l slot .n
   unfolding requestOf
-  segment-count = length-segments _ (layoutOf (q .abi)) slot 0
+  segment-count = length-segments _ l slot 0
 
-  few-sectors : (requestIn q slot .pair .operation ≡ 5 → ⊥) → totalSectors (requestIn q slot .segments) ≤ 88
+  few-sectors : (requestOf l slot .pair .operation ≡ 5 → ⊥) → totalSectors (requestOf l slot .segments) ≤ 88
   unfolding wrongSegment
   few-sectors d =
-      let w = within-total (requestIn q slot .segments) (not-false _ (rw (ne-eqb (requestIn q slot .pair .operation) 5 d) at within)) in
-      omega (arith, w, segment-count, few-segments (requestIn q slot) known amount d)
+      let w = within-total (requestOf l slot .segments) (not-false _ (rw (ne-eqb (requestOf l slot .pair .operation) 5 d) at within)) in
+      omega (arith, w, segment-count, few-segments (requestOf l slot) known amount d)
 
-  few-counted : (requestIn q slot .pair .operation ≡ 5 → ⊥) → countOf (requestIn q slot) ≤ 88
+  few-counted : (requestOf l slot .pair .operation ≡ 5 → ⊥) → countOf (requestOf l slot) ≤ 88
   unfolding countOf
-  few-counted d = rw (ne-eqb (requestIn q slot .pair .operation) 5 d) (at-most (movesNothing (requestIn q slot)))
+  few-counted d = rw (ne-eqb (requestOf l slot .pair .operation) 5 d) (at-most (movesNothing (requestOf l slot)))
     where
-      at-most : (b : Bool) → cond b 0 (totalSectors (requestIn q slot .segments)) ≤ 88
+      at-most : (b : Bool) → cond b 0 (totalSectors (requestOf l slot .segments)) ≤ 88
       at-most true = omega arith
       at-most false = few-sectors d
 
-  small : expectedOf (planOf (requestIn q slot)) < 2 ^ 32
+  small : expectedOf (planOf (requestOf l slot)) < 2 ^ 32
   unfolding expectedOf planOf
   small =
-      elim (ℕ-discrete (requestIn q slot .pair .operation) 5) [
+      elim (ℕ-discrete (requestOf l slot .pair .operation) 5) [
         | yes z ↦ rw z (omega arith)
         | no d ↦
-            elim (ℕ-discrete (requestIn q slot .pair .operation) 3) [
+            elim (ℕ-discrete (requestOf l slot .pair .operation) 3) [
               | yes z ↦ rw z (omega arith)
-              | no f ↦ rw (ne-eqb (requestIn q slot .pair .operation) 3 f, ne-eqb (requestIn q slot .pair .operation) 5 d) (omega (arith, few-counted d))
+              | no f ↦ rw (ne-eqb (requestOf l slot .pair .operation) 3 f, ne-eqb (requestOf l slot .pair .operation) 5 d) (omega (arith, few-counted d))
             ]
       ]
 
   pub expected-fits : expectedOf plan < 2 ^ 32
-  expected-fits = rw (all-passed q grants (requestIn q slot) plan e .1) at small
+  expected-fits = rw (all-passed q grants (requestOf l slot) plan e .1) at small

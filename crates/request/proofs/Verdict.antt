@@ -10,7 +10,8 @@ use native.Mathlib.Omega.{arith}
 use lib.Dec.{eqb, ltb, leb}
 use lib.ListN.{length}
 use Rattle.model.specs.Base.{all}
-use Rattle.model.specs.Ring.{Request, requestIn}
+use Rattle.model.specs.Ring.{Request}
+use Rattle.layout.specs.Copy.{requestIn}
 use Rattle.model.specs.Checks.{asksSecure, isEmptyBarrier, movesNothing, totalSectors, countOf, isGranted, unknownOperation, wrongAmount, isWithinFrame, wrongSegment, notGranted, operationChecks, segmentChecks, diskChecks, firstFailed}
 use Rattle.model.specs.Plan.{extentsFrom, extentsOf, extentWords, planOf, decided, verdictOf, noWords, wordsBeside}
 use Rattle.model.specs.declared.Checked.{Checked}
@@ -222,11 +223,11 @@ pub same-start : (operation : ℕ) (secure : Bool) {s t k l m n : ℕ} → s ≡
 same-start operation secure a b c = rw (a, b, c)
 
 module _ (p : Params) (grants slot : List ℕ) (v : Verdict) (words : List ℕ) where
-  pub judged-refused : (n : ℕ) (s : Status) → verdictOf p grants (requestIn p slot) ≡ Verdict.Refused n s → v ≡ Verdict.Refused n s → words ≡ noWords → Judged p grants slot v words
+  pub judged-refused : (n : ℕ) (s : Status) → verdictOf p grants (requestIn slot) ≡ Verdict.Refused n s → v ≡ Verdict.Refused n s → words ≡ noWords → Judged p grants slot v words
   unfolding wordsBeside
   judged-refused n s a b c = record { verdict = b ∙ sym a; beside = c ∙ rw a }
 
-  pub judged-start : (plan : Plan) → verdictOf p grants (requestIn p slot) ≡ Verdict.Start plan → v ≡ Verdict.Start plan
-      → words ≡ extentWords 11 (extentsOf (requestIn p slot)) → Judged p grants slot v words
+  pub judged-start : (plan : Plan) → verdictOf p grants (requestIn slot) ≡ Verdict.Start plan → v ≡ Verdict.Start plan
+      → words ≡ extentWords 11 (extentsOf (requestIn slot)) → Judged p grants slot v words
   unfolding wordsBeside
   judged-start plan a b c = record { verdict = b ∙ sym a; beside = c ∙ rw a }

@@ -1,5 +1,8 @@
 // One request, judged: the checks 21 to 29 over the copy of its slot, and the plan of a request that passes them.
 // Only the copy is read, so nothing that a guest writes meanwhile can change a field between its check and its use.
+use layout::COPY_ID;
+use layout::COPY_SEGMENTS;
+use layout::COPY_START;
 use layout::REQUEST_COUNT;
 use layout::REQUEST_OPERATION;
 use layout::SLOT_BYTES;
@@ -17,19 +20,19 @@ ghost use lib.Dec.{ltb};
 ghost use lib.ListN.{length, getD};
 ghost use Rattle.model.specs.Buffers.{grantShare};
 ghost use Rattle.model.specs.Plan.{planWords, noWords};
-ghost use Rattle.model.specs.Ring.{layoutOf, requestOf, requestIn, requestOperationAt, requestCountAt, discard};
+ghost use Rattle.model.specs.Ring.{requestOperationAt, requestCountAt, discard};
+ghost use Rattle.layout.specs.Copy.{requestIn};
 ghost use Rattle.model.specs.declared.Status.{Status as Due};
 ghost use Rattle.model.specs.declared.Verdict.{Verdict as Judgement};
 ghost use Rattle.checks.specs.Operations.{operationReason};
 ghost use Rattle.request.specs.Judge.{Judged, emptyStart, discardStart, dataStart};
 
 // What the guest tells this request apart by: its id and operation.
-pub fn pair_of(abi: model::Abi, slot: &[u8; SLOT_BYTES]) -> model::Pair
-    ensures { λ r. ⌜ r ≡ requestOf (layoutOf abi) (now (slot .entry)) .pair ⌝ }
+pub fn pair_of(slot: &[u8; SLOT_BYTES]) -> model::Pair
+    ensures { λ r. ⌜ r ≡ requestIn (now (slot .entry)) .pair ⌝ }
 {
-    let at = layout::id_at(abi);
     model::Pair {
-        id: wire::u64_at(slot, at),
+        id: wire::u64_at(slot, COPY_ID),
         operation: slot[REQUEST_OPERATION],
     }
 }
@@ -88,7 +91,7 @@ fn start_discard(start: u64, count: u64, secure: bool) -> Verdict
 }
 
 // The plan of a request with segments.
-fn start_data(operation: u8, start: u64, count: u64, extents: u32) -> Verdict
+fn start_data(operation: u8, start: u64, count: u64, extents: u64) -> Verdict
     ensures { λ r. ⌜ r ≡ dataStart operation start count extents ⌝ }
 {
     Verdict::Start(Plan {
@@ -102,14 +105,11 @@ fn start_data(operation: u8, start: u64, count: u64, extents: u32) -> Verdict
 
 // A discard that passed the checks 21 to 25.
 fn discard(params: Params, slot: &[u8; SLOT_BYTES], grants: &[u8], words: &mut [u64]) -> Verdict
-    requires { ⌜ (operationReason params (requestIn params (now slot)) ≡ 0) × (getD (now slot) requestOperationAt 0 ≡ discard) × (length (now words) ≡ planWords) ⌝ }
+    requires { ⌜ (operationReason params (requestIn (now slot)) ≡ 0) × (getD (now slot) requestOperationAt 0 ≡ discard) × (length (now words) ≡ planWords) ⌝ }
     ensures { λ r. ⌜ Judged params (now (grants .entry)) (now (slot .entry)) r (now (words .exit)) ⌝ }
 {
-    let abi = params.abi;
-    let start_at = layout::start_at(abi);
-    let start = wire::u64_at(slot, start_at);
-    let count_at = layout::segments_at(abi);
-    let count = wire::u64_at(slot, count_at);
+    let start = wire::u64_at(slot, COPY_START);
+    let count = wire::u64_at(slot, COPY_SEGMENTS);
     let range = checks::check_range(params, start, count);
     match range {
         Checked::Refused(reason, status) => {
@@ -127,19 +127,17 @@ fn discard(params: Params, slot: &[u8; SLOT_BYTES], grants: &[u8], words: &mut [
 
 // A read, write or barrier with segments that passed the checks 21 to 25.
 fn data(params: Params, slot: &[u8; SLOT_BYTES], grants: &[u8], words: &mut [u64]) -> Verdict
-    requires { ⌜ (length (now grants) ≡ grantShare) × (operationReason params (requestIn params (now slot)) ≡ 0) × (getD (now slot) requestOperationAt 0 ≡ discard → ⊥) × (getD (now slot) requestCountAt 0 ≡ 0 → ⊥) × (length (now words) ≡ planWords) ⌝ }
+    requires { ⌜ (length (now grants) ≡ grantShare) × (operationReason params (requestIn (now slot)) ≡ 0) × (getD (now slot) requestOperationAt 0 ≡ discard → ⊥) × (getD (now slot) requestCountAt 0 ≡ 0 → ⊥) × (length (now words) ≡ planWords) ⌝ }
     ensures { λ r. ⌜ Judged params (now (grants .entry)) (now (slot .entry)) r (now (words .exit)) ⌝ }
 {
     let operation = slot[REQUEST_OPERATION];
     let n = wide(slot[REQUEST_COUNT]);
-    let abi = params.abi;
-    let at = layout::start_at(abi);
-    let start = wire::u64_at(slot, at);
-    let found = segments::scan(abi, slot, n as usize, grants, operation, start, words);
+    let start = wire::u64_at(slot, COPY_START);
+    let found = segments::scan(slot, n as usize, grants, operation, start, words);
     match found {
         Counted::Fault => {
             return refuse(
-                segments::fault_reason(abi, slot, n as usize),
+                segments::fault_reason(slot, n as usize),
                 Status::Error,
                 words,
             );
@@ -152,7 +150,7 @@ fn data(params: Params, slot: &[u8; SLOT_BYTES], grants: &[u8], words: &mut [u64
                 }
                 Checked::Passed => {
                     extents::clear_from(words, n as usize);
-                    return start_data(operation, start, count, n);
+                    return start_data(operation, start, count, n as u64);
                 }
             }
         }

@@ -12,12 +12,12 @@ use Rattle.wire.specs.Part.{part}
 use Rattle.wire.proofs.LittleEndian.{store-add, getD-store-outside, load-agree}
 use Rattle.wire.proofs.Part.{getD-part}
 use Rattle.model.specs.Buffers.{pageShare}
-use Rattle.model.specs.Ring.{Ring, Layout, layoutOf, rspProdAt, rspEventAt, rspEvent, setRspProd, slotAt, responseOperationAt, responseStatusAt, responsePaddingAt, statusNumber, statusBits, setResponse}
+use Rattle.model.specs.Ring.{Ring, Layout, layoutOf, ringFor, rspProdAt, rspEventAt, rspEvent, setRspProd, slotAt, responseOperationAt, responseStatusAt, responsePaddingAt, statusNumber, statusBits, setResponse}
 use Rattle.model.specs.Turn.{responded}
 use Rattle.model.specs.declared.Abi.{Abi}
 use Rattle.model.specs.declared.Pair.{Pair}
 use Rattle.model.specs.declared.Status.{Status}
-use Rattle.model.proofs.Ring.{Fits, slotAt-header}
+use Rattle.model.proofs.Ring.{Fits, fits-for, slotAt-header}
 use Rattle.model.proofs.Page.{length-responded}
 
 -- ---- as the code writes it
@@ -31,11 +31,8 @@ byte-zero b at v h =
 
 -- a response of any layout has room for its status
 pub room-abi : (a : Abi) → responsePaddingAt ≤ layoutOf a .responseSize
-room-abi Abi.Bits64 = omega arith
-
--- and as many zeros behind it as the code's store writes
-pub padding-abi : (a : Abi) → layoutOf a .responseSize - responsePaddingAt ≡ 4
-padding-abi Abi.Bits64 = refl
+unfolding ringFor
+room-abi a = fits-for a .statusRoom
 
 -- the bits of a status' number, as a callee takes it
 pub passed : (s : Status) → ofZ w16 (toZ w16 (ofZ w16 (statusNumber s))) ≡ statusBits s

@@ -13,7 +13,7 @@ ghost use Prim.Native.Nat.{_+_, _-_, _≤_};
 ghost use lib.ListN.{length};
 ghost use Rattle.wire.specs.LittleEndian.{store};
 ghost use Rattle.model.specs.Buffers.{pageShare};
-ghost use Rattle.model.specs.Ring.{layoutOf, ringFor, setResponse, rspProdAt, responseOperationAt, responseStatusAt, responsePaddingAt};
+ghost use Rattle.model.specs.Ring.{layoutOf, ringFor, slotAt, setResponse, rspProdAt, responseOperationAt, responseStatusAt, responsePaddingAt};
 ghost use Rattle.response.specs.Promise.{Published, Responded};
 
 // The operation of the response at `at`, and the zero behind it: a number of two bytes.
@@ -31,6 +31,7 @@ fn put_padding(page: &mut [u8], abi: Abi, at: usize)
 {
     match abi {
         Abi::Bits64 => wire::put_u32(page, at, 0),
+        Abi::Bits32 => {}
     }
 }
 
@@ -48,12 +49,24 @@ fn put_fields(page: &mut [u8], abi: Abi, at: usize, pair: Pair, s: Status)
     put_padding(page, abi, at + RESPONSE_PADDING);
 }
 
-// A response goes to `at`; the rest of the slot is not touched.
-fn put_response(page: &mut [u8], abi: Abi, at: usize, pair: Pair, status: Status)
-    requires { ⌜ at + layoutOf abi .responseSize ≤ length (now page) ⌝ }
-    ensures { λ _. ⌜ now (page .exit) ≡ setResponse (layoutOf abi) (now (page .entry)) at pair status ⌝ }
+// A response goes to the slot of index `produced`; the rest of the slot is not touched.
+fn put_in_slot(page: &mut [u8], abi: Abi, produced: u32, pair: Pair, status: Status)
+    requires { ⌜ length (now page) ≡ pageShare ⌝ }
+    ensures { λ _. ⌜ now (page .exit) ≡ setResponse (layoutOf abi) (now (page .entry)) (slotAt (ringFor abi) produced) pair status ⌝ }
 {
+    let at = ring::slot_at(abi, produced);
     put_fields(page, abi, at, pair, status);
+}
+
+// The same, with an arm for each layout: there the compiler knows its numbers.
+fn put_response(page: &mut [u8], abi: Abi, produced: u32, pair: Pair, status: Status)
+    requires { ⌜ length (now page) ≡ pageShare ⌝ }
+    ensures { λ _. ⌜ now (page .exit) ≡ setResponse (layoutOf abi) (now (page .entry)) (slotAt (ringFor abi) produced) pair status ⌝ }
+{
+    match abi {
+        Abi::Bits64 => put_in_slot(page, Abi::Bits64, produced, pair, status),
+        Abi::Bits32 => put_in_slot(page, Abi::Bits32, produced, pair, status),
+    }
 }
 
 // rsp_prod is our own number; what the page had there is never read.
@@ -80,7 +93,6 @@ pub fn write_response(page: &mut [u8], abi: Abi, produced: u32, pair: Pair, stat
     requires { ⌜ length (now page) ≡ pageShare ⌝ }
     ensures { λ r. ⌜ Responded (ringFor abi) (now (page .entry)) produced pair status (now (page .exit)) r ⌝ }
 {
-    let at = ring::slot_at(abi, produced);
-    put_response(page, abi, at, pair, status);
+    put_response(page, abi, produced, pair, status);
     publish(page, produced)
 }

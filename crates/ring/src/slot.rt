@@ -1,6 +1,10 @@
 // The slots of a ring: where the slot of an index starts, and its copy.
+use layout::COPY_ID;
+use layout::HEAD_BYTES;
 use layout::HEADER_BYTES;
+use layout::REST_BYTES;
 use layout::SLOT_BYTES;
+use layout::id_at;
 use layout::ring_size;
 use layout::slot_size;
 use model::Abi;
@@ -8,7 +12,9 @@ ghost use mathlib.Core.Path.{_≡_};
 ghost use Prim.Native.Nat.{_+_, _≤_};
 ghost use lib.ListN.{length};
 ghost use Rattle.wire.specs.Part.{part};
-ghost use Rattle.model.specs.Ring.{ringFor, slotAt, slotBytes};
+ghost use Rattle.model.specs.Ring.{layoutOf, requestOf, ringFor, slotAt, slotBytes};
+ghost use Rattle.layout.specs.Copy.{requestIn};
+ghost use Rattle.ring.specs.Copy.{Copied};
 
 // Where the slot of an index starts in its page.
 pub fn slot_at(abi: Abi, index: u32) -> usize
@@ -17,17 +23,27 @@ pub fn slot_at(abi: Abi, index: u32) -> usize
     HEADER_BYTES + slot_size(abi) * (index % ring_size(abi)) as usize
 }
 
-// The bytes of a slot that starts at `at` of the rings. Each is read once, since another domain may write it in the meantime; look at the copy after that.
+// Copies n bytes of the rings, from `from` on, to place `to` of a request's copy. Each is read once, since another domain may write it in the meantime.
 // This says how the source reads. What the compiled code loads no proof shows: a compiler may load from the page again. tests/once looks at the archive.
-pub fn copy_slot(rings: &[u8], at: usize) -> [u8; SLOT_BYTES]
-    requires { ⌜ at + slotBytes ≤ length (now rings) ⌝ }
-    ensures { λ r. ⌜ r ≡ part slotBytes (now (rings .entry)) at ⌝ }
+fn copy_bytes(rings: &[u8], from: usize, copy: &mut [u8], to: usize, n: usize)
+    requires { ⌜ (from + n ≤ length (now rings)) × (to + n ≤ length (now copy)) ⌝ }
+    ensures { λ _. ⌜ Copied n (now (rings .entry)) from (now (copy .entry)) to (now (copy .exit)) ⌝ }
 {
-    let mut out = [0u8; SLOT_BYTES];
     let mut i = 0;
-    while i < SLOT_BYTES {
-        out[i] = rings[at + i];
+    while i < n {
+        copy[to + i] = rings[from + i];
         i += 1;
     }
-    out
+}
+
+// The request in the slot that starts at `at` of the rings, in the layout that every copy has: look at the copy after that. In two pieces, since the id
+// stands elsewhere in it. No byte of the slot is read twice, and none behind it; a 64-bit slot's four bytes before the id are not read at all.
+pub fn copy_slot(rings: &[u8], at: usize, abi: Abi) -> [u8; SLOT_BYTES]
+    requires { ⌜ at + layoutOf abi .slotSize ≤ length (now rings) ⌝ }
+    ensures { λ r. ⌜ requestIn r ≡ requestOf (layoutOf abi) (part (layoutOf abi .slotSize) (now (rings .entry)) at) ⌝ }
+{
+    let mut copy = [0u8; SLOT_BYTES];
+    copy_bytes(rings, at, &mut copy, 0, HEAD_BYTES);
+    copy_bytes(rings, at + id_at(abi), &mut copy, COPY_ID, REST_BYTES);
+    copy
 }

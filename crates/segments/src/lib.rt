@@ -1,4 +1,5 @@
 // Checks 26 and 27 over a request's segments, and the extents that they become.
+use layout::COPY_SEGMENTS;
 use layout::SEGMENT_BYTES;
 use layout::SEGMENT_FIRST;
 use layout::SEGMENT_LAST;
@@ -17,7 +18,8 @@ ghost use Rattle.model.specs.Base.{all};
 ghost use Rattle.model.specs.Buffers.{grantShare};
 ghost use Rattle.model.specs.Checks.{maxSegments, suffices, isWithinFrame};
 ghost use Rattle.model.specs.Plan.{planWords};
-ghost use Rattle.model.specs.Ring.{layoutOf, segmentsOf};
+ghost use Rattle.model.specs.Ring.{segmentsOf};
+ghost use Rattle.layout.specs.Copy.{copyLayout};
 ghost use Rattle.segments.specs.Segments.{Scanned};
 
 // The bytes of a segment to each word of its extent.
@@ -52,7 +54,6 @@ fn suffices(grant: u8, operation: u8) -> bool
 // may pass 2^64 here, since check 28 comes later; it wraps, and the request is refused. The loop counts the words, four to a segment of eight bytes: one
 // number for both places.
 pub fn scan(
-    abi: model::Abi,
     slot: &[u8; SLOT_BYTES],
     n: usize,
     grants: &[u8],
@@ -61,12 +62,12 @@ pub fn scan(
     words: &mut [u64],
 ) -> Counted
     requires { ⌜ (n ≤ maxSegments) × (length (now grants) ≡ grantShare) × (length (now words) ≡ planWords) ⌝ }
-    ensures { λ r. ⌜ Scanned (now (grants .entry)) operation start (segmentsOf n (layoutOf abi) (now (slot .entry)) 0) r (now (words .exit)) ⌝ }
+    ensures { λ r. ⌜ Scanned (now (grants .entry)) operation start (segmentsOf n copyLayout (now (slot .entry)) 0) r (now (words .exit)) ⌝ }
 {
     let mut sector = start;
     let mut place: usize = 0;
     while place < EXTENT_WORDS * n {
-        let at = layout::segments_at(abi) + STEP * place;
+        let at = COPY_SEGMENTS + STEP * place;
         let frame = wire::u32_at(slot, at);
         let first = slot[at + SEGMENT_FIRST];
         let last = slot[at + SEGMENT_LAST];
@@ -91,13 +92,13 @@ pub fn scan(
 }
 
 // Which of 26 and 27 the first n segments fail, where they fail one: 26 where any is not within its frame.
-pub fn fault_reason(abi: model::Abi, slot: &[u8; SLOT_BYTES], n: usize) -> u32
+pub fn fault_reason(slot: &[u8; SLOT_BYTES], n: usize) -> u32
     requires { ⌜ n ≤ maxSegments ⌝ }
-    ensures { λ r. ⌜ r ≡ cond (all isWithinFrame (segmentsOf n (layoutOf abi) (now (slot .entry)) 0)) 27 26 ⌝ }
+    ensures { λ r. ⌜ r ≡ cond (all isWithinFrame (segmentsOf n copyLayout (now (slot .entry)) 0)) 27 26 ⌝ }
 {
     let mut i: usize = 0;
     while i < n {
-        let at = layout::segment_at(abi, i);
+        let at = layout::segment_at(i);
         let first = slot[at + SEGMENT_FIRST];
         let last = slot[at + SEGMENT_LAST];
         if last < first {

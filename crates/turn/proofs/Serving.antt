@@ -11,6 +11,7 @@ use Rattle.model.specs.Complete.{expectedOf}
 use Rattle.model.specs.Deeds.{portAfter}
 use Rattle.model.specs.Port.{isBusy, setBusy, lowestFree, busyBits, after}
 use Rattle.model.specs.Ring.{ringOf}
+use Rattle.model.proofs.Refinement.{own-port}
 use Rattle.model.proofs.Ring.{fits}
 use Rattle.model.specs.declared.Plan.{Plan}
 use Rattle.model.specs.declared.Port.{Port}
@@ -34,6 +35,11 @@ module _ {m m1 m2 m3 : List ℕ} (k v w : ℕ) (p : Port) (o : Reads (backendOf 
   answered e f x y z =
       let both = fields-become (backendOf m) k (λ q. withConsumed q v) (λ q. withProduced q w) x y in
       restated (then (λ (b : Backend). withPointer b (portAfter k)) both z) (rw (e, f, o .read))
+
+-- between them the port has its other fields as before
+pub consumed-raised : {m m1 : List ℕ} (k v : ℕ) (p : Port) → Reads (backendOf m) k p → Becomes m (withPort (backendOf m) k (withConsumed (backendOf m .port k) v)) m1
+    → backendOf m1 .port k ≡ withConsumed p v
+consumed-raised {m} k v p o x = rw (x .backend, o .read) (own-port (backendOf m) k (withConsumed (backendOf m .port k) v))
 
 module _ {m m1 m2 m3 m4 : List ℕ} (k t v w : ℕ) (p : Port) (o : Reads (backendOf m) k p) (x : Tag) where
   -- a tag put, req_cons raised, the tag's mark set, and the pointer

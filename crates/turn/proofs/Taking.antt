@@ -11,10 +11,11 @@ use Rattle.model.specs.Backend.{Backend, viewOf, does}
 use Rattle.model.specs.Buffers.{ports, pageShare, pageOf, grantsOf}
 use Rattle.model.specs.Plan.{verdictOf, noWords, wordsBeside}
 use Rattle.model.specs.Port.{isOpen, inFlightOf, distance, pendingOf}
-use Rattle.model.specs.Ring.{reqProd, slotBytes, layoutOf, ringFor, ringOf, slotAt, slotOf, requestOf, requestIn}
+use Rattle.model.specs.Ring.{Request, reqProd, layoutOf, ringFor, ringOf, slotAt, slotOf, requestOf}
+use Rattle.layout.specs.Copy.{requestIn}
 use Rattle.model.specs.Turn.{pendingAt, hasWork, requestAt, settled, overran, servedBy}
 use Rattle.model.proofs.Base.{clash}
-use Rattle.model.proofs.Ring.{fits-for, slot-place, slotAt-room}
+use Rattle.model.proofs.Ring.{fits-for, slotAt-room}
 use Rattle.model.specs.declared.Abi.{Abi}
 use Rattle.model.specs.declared.Pair.{Pair}
 use Rattle.model.specs.declared.Pending.{Pending}
@@ -34,22 +35,28 @@ unfolding ringFor
 layout-of a = refl
 
 -- the copied slot lies in its page
-pub slot-within : (a : Abi) (i : ℕ) → slotAt (ringFor a) i + slotBytes ≤ pageShare
+pub slot-within : (a : Abi) (i : ℕ) → slotAt (ringFor a) i + layoutOf a .slotSize ≤ pageShare
 unfolding ringFor
-slot-within a i = rw (← slot-place a) at (slotAt-room (ringFor a) (fits-for a) i)
+slot-within a i = slotAt-room (ringFor a) (fits-for a) i
 
 -- the bytes copied are the slot's
-copied : (a : Abi) (rings : List ℕ) (k i : ℕ) → part slotBytes rings (pageShare * k + slotAt (ringFor a) i) ≡ slotOf (ringFor a) (pageOf rings k) i
+copied : (a : Abi) (rings : List ℕ) (k i : ℕ) → part (layoutOf a .slotSize) rings (pageShare * k + slotAt (ringFor a) i) ≡ slotOf (ringFor a) (pageOf rings k) i
 unfolding slotOf pageOf ringFor
-copied a rings k i = rw (← slot-place a) (sym (part-part slotBytes pageShare rings (pageShare * k) (slotAt (ringFor a) i) (slot-within a i)))
+copied a rings k i = sym (part-part (layoutOf a .slotSize) pageShare rings (pageShare * k) (slotAt (ringFor a) i) (slot-within a i))
 
--- the request that the rules judge is the one in the copy
+-- the request in the slot of the rings that a port takes next, as the copy reads it
+abbrev pub lentRequest : List ℕ → ℕ → Port → Request
+lentRequest rings k p =
+    let l = layoutOf (p .params .abi) in
+    requestOf l (part (l .slotSize) rings (pageShare * k + slotAt (ringOf (p .params)) (p .consumed)))
+
+-- is the one that the rules judge
 module _ (b : Backend) (rings : List ℕ) (k : ℕ) (p : Port) (o : Reads b k p) where
   view-request : requestAt (viewOf b) rings k ≡ requestOf (ringOf (b .port k .params) .layout) (slotOf (ringOf (b .port k .params)) (pageOf rings k) (b .port k .consumed))
   unfolding requestAt viewOf
   view-request = refl
 
-  pub request-copied : requestIn (p .params) (part slotBytes rings (pageShare * k + slotAt (ringOf (p .params)) (p .consumed))) ≡ requestAt (viewOf b) rings k
+  pub request-copied : lentRequest rings k p ≡ requestAt (viewOf b) rings k
   request-copied = rw (copied (p .params .abi) rings k (p .consumed), view-request, ← o .read, layout-of (p .params .abi))
 
   params-read : viewOf b .params k ≡ p .params
@@ -73,15 +80,14 @@ module _ (size inFlight d : ℕ) where
 -- ---- a request taken, started or answered at once
 
 module _ (m rings grants : List ℕ) (k : ℕ) (p : Port) (o : Reads (backendOf m) k p) (slot : List ℕ)
-    (c : slot ≡ part slotBytes rings (pageShare * k + slotAt (ringOf (p .params)) (p .consumed))) (v : Verdict)
-    (j : v ≡ verdictOf (p .params) (grantsOf grants k) (requestIn (p .params) slot)) where
-  same-request : requestIn (p .params) slot ≡ requestAt (viewOf (backendOf m)) rings k
-  same-request = ap (requestIn (p .params)) c ∙ request-copied (backendOf m) rings k p o
+    (c : requestIn slot ≡ lentRequest rings k p) (v : Verdict) (j : v ≡ verdictOf (p .params) (grantsOf grants k) (requestIn slot)) where
+  same-request : requestIn slot ≡ requestAt (viewOf (backendOf m)) rings k
+  same-request = c ∙ request-copied (backendOf m) rings k p o
 
-  settled-by : settledAt (backendOf m) rings grants k ≡ settled (viewOf (backendOf m)) rings k (requestIn (p .params) slot) v
+  settled-by : settledAt (backendOf m) rings grants k ≡ settled (viewOf (backendOf m)) rings k (requestIn slot) v
   settled-by = rw (params-read (backendOf m) rings k p o, ← same-request, ← j)
 
-  module _ (q : Pair) (e : q ≡ requestIn (p .params) slot .pair) (pages words : List ℕ) (w : words ≡ wordsBeside (requestIn (p .params) slot) v) (r : Turned)
+  module _ (q : Pair) (e : q ≡ requestIn slot .pair) (pages words : List ℕ) (w : words ≡ wordsBeside (requestIn slot) v) (r : Turned)
       (left : List ℕ) where
     pub took-declined : (n : ℕ) (s : Status) → v ≡ Verdict.Refused n s → Declined m rings k q n s pages r left
         → Turns m rings (settledAt (backendOf m) rings grants k) pages words r left

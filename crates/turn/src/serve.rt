@@ -93,11 +93,10 @@ fn decline(
     requires { ⌜ Reads (backendOf (now memory)) k p × (length (now rings) ≡ ringsLength) ⌝ }
     ensures { λ r. ⌜ Declined (now (memory .entry)) (now (rings .entry)) k pair reason status (now (rings .exit)) r (now (memory .exit)) ⌝ }
 {
-    let params = p.params;
-    let abi = params.abi;
+    memory::set_consumed(memory, k, ring::next_index(p.consumed));
+    let abi = memory::abi(memory, k);
     let produced = memory::produced(memory, k);
     let notify = response::respond(rings, k, abi, produced, pair, status);
-    memory::set_consumed(memory, k, ring::next_index(p.consumed));
     memory::set_produced(memory, k, ring::next_index(produced));
     advance(memory, k);
     Turned::Answered(PortId(k as u32), reason, status, notify)
@@ -116,15 +115,15 @@ fn take(
     ensures { λ r. ⌜ Turns (now (memory .entry)) (now (rings .entry)) (settledAt (backendOf (now (memory .entry))) (now (rings .entry)) (now (grants .entry)) k) (now (rings .exit)) (now (words .exit)) r (now (memory .exit)) ⌝ }
 {
     let consumed = memory::consumed(memory, k);
-    let at = RING_BYTES * k + ring::slot_at(memory::abi(memory, k), consumed);
-    let slot = ring::copy_slot(rings, at);
+    let abi = memory::abi(memory, k);
+    let at = RING_BYTES * k + ring::slot_at(abi, consumed);
+    let slot = ring::copy_slot(rings, at, abi);
     let p = memory::port_at(memory, k);
     let params = p.params;
     let from = PORT_GRANTS * k;
     let end = from + PORT_GRANTS;
     let verdict = request::judge(params, &slot, &grants[from..end], words);
-    let abi = params.abi;
-    let pair = request::pair_of(abi, &slot);
+    let pair = request::pair_of(&slot);
     match verdict {
         Verdict::Refused(reason, status) => decline(memory, rings, k, p, pair, reason, status),
         Verdict::Start(plan) => start(memory, k, p, pair, plan),

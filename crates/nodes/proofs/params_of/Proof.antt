@@ -1,4 +1,4 @@
--- `nodes::params_of` meets its contract: the fields are the definition's, and the sector size is what its function says. Assumes nothing.
+-- `nodes::params_of` meets its contract: the fields are the definition's, and the sector size and the layout are what their functions say. Assumes nothing.
 use borrow.Author.Needs.{needs}
 use Rattle.model.specs.NodeSheet.{paramsOf}
 use Rattle.nodes.proofs.params_of.Statement.{statement}
@@ -28,9 +28,15 @@ sector-size-requires c κs = search needs
 array-read-t29 : tie.Need-array-read-t29
 array-read-t29 c = search needs
 
+array-read-abi-for : tie.Need-array-read-abi-for
+array-read-abi-for c = search needs
+
+abi-for-requires : tie.Need-abi-for-requires
+abi-for-requires c κs = search needs
+
 returns : tie.Need-returns
 unfolding paramsOf
-returns c = rw (c .sector-size .ensures)
+returns c = rw (c .before .sector-size .ensures, c .abi-for .ensures)
 
 pub params-of-spec : {M : Type 1} → statement M
 params-of-spec =
@@ -44,4 +50,6 @@ params-of-spec =
     array-read-sector-size
     sector-size-requires
     array-read-t29
+    array-read-abi-for
+    abi-for-requires
     returns)

@@ -6,7 +6,8 @@ use Prim.Native.Nat.{ℕ, _+_, _^_, _<_, _≤_}
 use native.Mathlib.Omega.{arith}
 use lib.ListN.{length}
 use Rattle.model.specs.Base.{all}
-use Rattle.model.specs.Ring.{Request, requestOf, layoutOf, requestIn}
+use Rattle.model.specs.Ring.{Request, requestOf}
+use Rattle.layout.specs.Copy.{copyLayout, requestIn}
 use Rattle.model.specs.Checks.{totalSectors, operationChecks, diskChecks, firstFailed}
 use Rattle.model.specs.Plan.{extentWords}
 use Rattle.model.specs.declared.Checked.{Checked}
@@ -21,10 +22,10 @@ use Rattle.request.proofs.data.Tie as tie
 
 -- where the function began, and the request
 abbrev entry : tie.After-scan → tie.Start
-entry x = x .before .before .before .before .before .before .before .before .before .before
+entry x = x .before .before .before .before .before .before .before .before .before
 
 abbrev asked : tie.Start → Request
-asked o = requestIn (o .args .params) (o .args .slot .now)
+asked o = requestIn (o .args .slot .now)
 
 passed : (o : tie.Start) → firstFailed (operationChecks (o .args .params) (asked o)) ≡ Checked.Passed
 passed o = operation-passed (o .args .params) (asked o) (o .pre .1)
@@ -36,17 +37,17 @@ few o = data-few (o .args .params) (o .args .grants .now) (asked o) (passed o) (
 
 long : (o : tie.Start) → length (asked o .segments) ≡ asked o .n
 unfolding requestOf
-long o = length-segments (asked o .n) (layoutOf (o .args .params .abi)) (o .args .slot .now) 0
+long o = length-segments (asked o .n) copyLayout (o .args .slot .now) 0
 
 -- what was read and found is the request's
 begins : (x : tie.After-scan) → x .before .before .u64-at .result ≡ asked (entry x) .start
 unfolding requestOf
-begins x = rw (x .before .before .before .before .start-at .ensures .0) at (x .before .before .u64-at .ensures)
+begins x = x .before .before .u64-at .ensures
 
 found : (x : tie.After-scan)
-    → Scanned (entry x .args .grants .now) (asked (entry x) .pair .operation) (asked (entry x) .start) (asked (entry x) .segments) (x .scan .result) (x .scan .last .1 .1 .1 .1 .1 .1 .0)
+    → Scanned (entry x .args .grants .now) (asked (entry x) .pair .operation) (asked (entry x) .start) (asked (entry x) .segments) (x .scan .result) (x .scan .last .1 .1 .1 .1 .1 .0)
 unfolding requestOf
-found x = rw (x .before .before .before .before .before .wide .ensures, begins x) at (x .scan .ensures)
+found x = rw (x .before .before .before .before .wide .ensures, begins x) at (x .scan .ensures)
 
 -- every segment passed, and the range is the request's
 abbrev pass : tie.After-check-range → tie.After-scan
@@ -72,9 +73,6 @@ element-copy-out-wide c = search needs
 wide-requires : tie.Need-wide-requires
 wide-requires c κs = search needs
 
-start-at-requires : tie.Need-start-at-requires
-start-at-requires c κs = search needs
-
 u64-at-requires : tie.Need-u64-at-requires
 u64-at-requires c κs = search needs
 
@@ -83,7 +81,7 @@ cast-scan c = search needs
 
 scan-requires : tie.Need-scan-requires
 unfolding requestOf
-scan-requires c κs = let o = c .before .before .before .before .before .before .before .before .before in omega (arith, few o, c .before .before .before .before .wide .ensures, o .pre .0)
+scan-requires c κs = let o = c .before .before .before .before .before .before .before .before in omega (arith, few o, c .before .before .before .wide .ensures, o .pre .0)
 
 enum-told : tie.Need-enum-told
 enum-told c = search needs
@@ -93,7 +91,7 @@ cast-fault-reason c = search needs
 
 fault-reason-requires : tie.Need-fault-reason-requires
 unfolding requestOf
-fault-reason-requires c κs = let x = c .before .before .before .before in let o = entry x in omega (arith, few o, x .before .before .before .before .before .wide .ensures, o .pre .0)
+fault-reason-requires c κs = let x = c .before .before .before .before in let o = entry x in omega (arith, few o, x .before .before .before .before .wide .ensures, o .pre .0)
 
 refuse-requires : tie.Need-refuse-requires
 refuse-requires c κs = search needs
@@ -111,7 +109,7 @@ returns c =
     let a = o .args in
     let r = asked o in
     let fault = scan-fault _ _ _ (r .segments) _ _ (found x) (told .enum-told .given .1) in
-    let why = rw (x .before .before .before .before .before .wide .ensures) at (done .before .before .fault-reason .ensures) in
+    let why = rw (x .before .before .before .before .wide .ensures) at (done .before .before .fault-reason .ensures) in
     judged-refused (a .params) (a .grants .now) (a .slot .now) _ _ _ _
     (data-fault (a .params) (a .grants .now) r (passed o) (o .pre .2) (o .pre .3) fault)
     (rw why at (done .refuse .ensures .0))
@@ -152,7 +150,10 @@ cast-clear-from c = search needs
 
 clear-from-requires : tie.Need-clear-from-requires
 unfolding requestOf
-clear-from-requires c κs = let x = pass (c .before .before .before) in let o = entry x in omega (arith, few o, x .before .before .before .before .before .wide .ensures, o .pre .0)
+clear-from-requires c κs = let x = pass (c .before .before .before) in let o = entry x in omega (arith, few o, x .before .before .before .before .wide .ensures, o .pre .0)
+
+cast-start-data : tie.Need-cast-start-data
+cast-start-data c = search needs
 
 start-data-requires : tie.Need-start-data-requires
 start-data-requires c κs = search needs
@@ -172,7 +173,7 @@ returns-3 c =
     let p = a .params in
     let g = a .grants .now in
     let r = asked o in
-    let n = x .before .before .before .before .before .wide .ensures in
+    let n = x .before .before .before .before .wide .ensures in
     let whole = sym (ranged k) ∙ told .enum-told2 .given .1 in
     -- check 28 has passed: so no disk sector wrapped
     let fits : r .start + totalSectors (r .segments) < 2 ^ 64 = omega (arith, passed-within p (r .start) (totalSectors (r .segments)) whole, o .good) in
@@ -190,7 +191,6 @@ data-spec =
     element-copy-out-operation
     element-copy-out-wide
     wide-requires
-    start-at-requires
     u64-at-requires
     cast-scan
     scan-requires
@@ -209,6 +209,7 @@ data-spec =
     enum-told-2
     cast-clear-from
     clear-from-requires
+    cast-start-data
     start-data-requires
     same-length-3
     returns-3)

@@ -3,7 +3,8 @@ use borrow.Author.Needs.{needs}
 use borrow.Author.Tests.{ne-eqb}
 use mathlib.Core.Path.{_≡_, refl, sym, ap, ap₂, _∙_}
 use Prim.Native.Nat.{ℕ, _%_}
-use Rattle.model.specs.Ring.{Request, requestOf, requestIn}
+use Rattle.model.specs.Ring.{Request, requestOf}
+use Rattle.layout.specs.Copy.{requestIn}
 use Rattle.model.specs.Checks.{operationChecks, diskChecks, firstFailed}
 use Rattle.model.specs.Plan.{extentWords}
 use Rattle.model.specs.declared.Checked.{Checked}
@@ -14,34 +15,28 @@ use Rattle.request.proofs.discard.Tie as tie
 
 -- where the function began, and the request
 abbrev entry : tie.After-check-range → tie.Start
-entry k = k .before .before .before .before .before .before .before .before .before
+entry k = k .before .before .before .before .before .before .before
 
 abbrev asked : tie.Start → Request
-asked o = requestIn (o .args .params) (o .args .slot .now)
+asked o = requestIn (o .args .slot .now)
 
 passed : (o : tie.Start) → firstFailed (operationChecks (o .args .params) (asked o)) ≡ Checked.Passed
 passed o = operation-passed (o .args .params) (asked o) (o .pre .0)
 
 -- what was read is the request's
-begins : (k : tie.After-check-range) → k .before .before .before .before .u64-at .result ≡ asked (entry k) .start
+begins : (k : tie.After-check-range) → k .before .before .before .u64-at .result ≡ asked (entry k) .start
 unfolding requestOf
-begins k = rw (k .before .before .before .before .before .before .start-at .ensures .0) at (k .before .before .before .before .u64-at .ensures)
+begins k = k .before .before .before .u64-at .ensures
 
 counts : (k : tie.After-check-range) → k .before .u64-at2 .result ≡ asked (entry k) .sectors
 unfolding requestOf
-counts k = rw (k .before .before .before .segments-at .ensures .0) at (k .before .u64-at2 .ensures)
+counts k = k .before .u64-at2 .ensures
 
 ranged : (k : tie.After-check-range) → k .check-range .result ≡ firstFailed (diskChecks (entry k .args .params) (asked (entry k) .start) (asked (entry k) .sectors))
 ranged k = k .check-range .ensures ∙ ap₂ (λ (s n : ℕ). firstFailed (diskChecks (entry k .args .params) s n)) (begins k) (counts k)
 
-start-at-requires : tie.Need-start-at-requires
-start-at-requires c κs = search needs
-
 u64-at-requires : tie.Need-u64-at-requires
 u64-at-requires c κs = search needs
-
-segments-at-requires : tie.Need-segments-at-requires
-segments-at-requires c κs = search needs
 
 u64-at-requires-2 : tie.Need-u64-at-requires-2
 u64-at-requires-2 c κs = search needs
@@ -121,9 +116,7 @@ pub discard-spec : {M : Type 1} → statement M
 discard-spec =
     tie.close
     (tie.spec
-    start-at-requires
     u64-at-requires
-    segments-at-requires
     u64-at-requires-2
     check-range-requires
     enum-known-range

@@ -2,7 +2,8 @@
 use borrow.Author.Needs.{needs}
 use mathlib.Core.Path.{_≡_, sym, ap, _∙_}
 use mathlib.Core.List.{[]}
-use Rattle.model.specs.Ring.{requestOf, segmentsOf, requestIn}
+use Rattle.model.specs.Ring.{requestOf, segmentsOf}
+use Rattle.layout.specs.Copy.{requestIn}
 use Rattle.model.specs.Plan.{extentWords}
 use Rattle.checks.proofs.Steps.{operation-passed, operation-refused}
 use Rattle.request.proofs.Verdict.{operation-verdict, empty-started, empty-extents, judged-refused, judged-start}
@@ -27,7 +28,7 @@ returns c =
     let cleared = c .before .before .before in
     let test = cleared .before .before in
     let a = test .before .before .before .before .args in
-    let r = requestIn (a .params) (a .slot .now) in
+    let r = requestIn (a .slot .now) in
     let reason = test .before .operation-reason .ensures in
     judged-refused (a .params) (a .grants .now) (a .slot .now) _ _ _ _
     (operation-verdict (a .params) (a .grants .now) r _ _ (operation-refused (a .params) r (λ z. test .if1 .taken (reason ∙ z))))
@@ -63,7 +64,7 @@ unfolding requestOf segmentsOf
 returns-3 c =
     let done = c .before .before in
     let a = done .before .before .before .before .before .before .before .before .before .before .before .args in
-    let r = requestIn (a .params) (a .slot .now) in
+    let r = requestIn (a .slot .now) in
     let reason = sym (done .before .before .before .before .before .before .before .before .operation-reason .ensures) ∙ done .before .before .before .before .before .before .before .if1 .left in
     let passed = operation-passed (a .params) r reason in
     let other = done .before .before .before .before .before .if2 .left in

@@ -4,18 +4,15 @@ use Rattle.model.specs.Ring.{requestOf}
 use Rattle.request.proofs.pair_of.Statement.{statement}
 use Rattle.request.proofs.pair_of.Tie as tie
 
-id-at-requires : tie.Need-id-at-requires
-id-at-requires c κs = search needs
-
 u64-at-requires : tie.Need-u64-at-requires
 u64-at-requires c κs = search needs
 
-element-copy-out-t9 : tie.Need-element-copy-out-t9
-element-copy-out-t9 c = search needs
+element-copy-out-t7 : tie.Need-element-copy-out-t7
+element-copy-out-t7 c = search needs
 
 returns : tie.Need-returns
 unfolding requestOf
-returns c = rw (rw (c .before .before .before .id-at .ensures .0) at (c .before .u64-at .ensures))
+returns c = rw (c .before .u64-at .ensures)
 
 pub pair-of-spec : {M : Type 1} → statement M
-pair-of-spec = tie.close (tie.spec id-at-requires u64-at-requires element-copy-out-t9 returns)
+pair-of-spec = tie.close (tie.spec u64-at-requires element-copy-out-t7 returns)

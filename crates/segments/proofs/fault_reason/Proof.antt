@@ -8,16 +8,17 @@ use native.Mathlib.Nat.{zero-add}
 use native.Mathlib.Omega.{arith}
 use Rattle.model.specs.Base.{all}
 use Rattle.model.specs.Checks.{isWithinFrame}
-use Rattle.model.specs.Ring.{Layout, layoutOf, segmentOf, segmentsOf}
+use Rattle.model.specs.Ring.{Layout, segmentOf, segmentsOf}
+use Rattle.layout.specs.Copy.{copyLayout}
 use Rattle.segments.proofs.Slot.{all-snoc, all-fails, segments-snoc, within-order, within-end, within-yes}
 use Rattle.segments.proofs.fault_reason.Statement.{statement}
 use Rattle.segments.proofs.fault_reason.Tie as tie
 
 abbrev Inv-loop : tie.InvT-loop
-Inv-loop abi slot n i₀ i = (i ≤ n) × (all isWithinFrame (segmentsOf i (layoutOf abi) slot 0) ≡ true)
+Inv-loop slot n i₀ i = (i ≤ n) × (all isWithinFrame (segmentsOf i copyLayout slot 0) ≡ true)
 
 abbrev μ-loop : tie.MeasureT-loop
-μ-loop abi slot n i₀ i = n - i
+μ-loop slot n i₀ i = n - i
 
 loop-holds : tie.Need-loop-holds Inv-loop μ-loop
 unfolding all segmentsOf
@@ -49,7 +50,7 @@ returns c =
     let g = c .before .before .before in
     let a = g .before .before .before .args in
     let l = g .before .before .loop in
-    fails-at (layoutOf (a .abi)) (a .slot .now) (a .n) (l .i) (omega arith) (within-order _ (rw (g .segment-at .ensures .0) at (c .if1 .taken)))
+    fails-at copyLayout (a .slot .now) (a .n) (l .i) (omega arith) (within-order _ (rw (g .segment-at .ensures .0) at (c .if1 .taken)))
 
 returns-2 : tie.Need-returns-2 Inv-loop μ-loop
 unfolding segmentOf
@@ -57,7 +58,7 @@ returns-2 c =
     let g = c .before .before .before .before in
     let a = g .before .before .before .args in
     let l = g .before .before .loop in
-    fails-at (layoutOf (a .abi)) (a .slot .now) (a .n) (l .i) (omega arith) (within-end _ (rw (g .segment-at .ensures .0) at (c .before .if1 .left)) (rw (g .segment-at .ensures .0) at (c .if2 .taken)))
+    fails-at copyLayout (a .slot .now) (a .n) (l .i) (omega arith) (within-end _ (rw (g .segment-at .ensures .0) at (c .before .if1 .left)) (rw (g .segment-at .ensures .0) at (c .if2 .taken)))
 
 add-i : tie.Need-add-i Inv-loop μ-loop
 add-i c = search needs
@@ -72,9 +73,9 @@ loop-again c =
     let a = g .before .before .before .args in
     let l = g .before .before .loop in
     let at-i = g .segment-at .ensures .0 in
-    let s = segmentOf (layoutOf (a .abi)) (a .slot .now) (l .i) in (
+    let s = segmentOf copyLayout (a .slot .now) (l .i) in (
       omega arith,
-      rw (segments-snoc (l .i) (layoutOf (a .abi)) (a .slot .now) 0, zero-add (l .i))
+      rw (segments-snoc (l .i) copyLayout (a .slot .now) 0, zero-add (l .i))
           (all-snoc isWithinFrame _ s (l .inv .1) (within-yes s (rw at-i at (c .before .if1 .left)) (rw at-i at (c .if2 .left)))),
     )
 

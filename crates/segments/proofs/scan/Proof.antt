@@ -7,7 +7,8 @@ use mathlib.Core.List.{List}
 use Prim.Native.Nat.{ℕ, _+_, _-_, _*_, _/_, _<_, _≤_}
 use native.Mathlib.Omega.{arith}
 use Rattle.model.specs.Checks.{sectorsIn}
-use Rattle.model.specs.Ring.{layoutOf, segmentOf, segmentsOf}
+use Rattle.model.specs.Ring.{segmentOf, segmentsOf}
+use Rattle.layout.specs.Copy.{copyLayout}
 use Rattle.model.specs.declared.Segment.{Segment}
 use Rattle.segments.specs.Segments.{passes, Scanned}
 use Rattle.segments.specs.declared.Counted.{Counted}
@@ -17,11 +18,11 @@ use Rattle.segments.proofs.scan.Statement.{statement}
 use Rattle.segments.proofs.scan.Tie as tie
 
 abbrev Inv-loop : tie.InvT-loop
-Inv-loop abi slot n grants operation start words₀ sector₀ place₀ words sector place =
-    (place ≤ 4 * n) × (place ≡ 4 * (place / 4)) × Upto grants operation start (segmentsOf (place / 4) (layoutOf abi) slot 0) words sector
+Inv-loop slot n grants operation start words₀ sector₀ place₀ words sector place =
+    (place ≤ 4 * n) × (place ≡ 4 * (place / 4)) × Upto grants operation start (segmentsOf (place / 4) copyLayout slot 0) words sector
 
 abbrev μ-loop : tie.MeasureT-loop
-μ-loop abi slot n grants operation start words₀ sector₀ place₀ words sector place = 4 * n - place
+μ-loop slot n grants operation start words₀ sector₀ place₀ words sector place = 4 * n - place
 
 loop-holds : tie.Need-loop-holds Inv-loop μ-loop
 unfolding segmentsOf
@@ -31,9 +32,6 @@ loop-holds c =
 
 mul-loop : tie.Need-mul-loop Inv-loop μ-loop
 mul-loop c = search needs
-
-segments-at-requires : tie.Need-segments-at-requires Inv-loop μ-loop
-segments-at-requires c κs = search needs
 
 mul-at : tie.Need-mul-at Inv-loop μ-loop
 mul-at c = search needs
@@ -57,22 +55,22 @@ element-copy-out-last : tie.Need-element-copy-out-last Inv-loop μ-loop
 element-copy-out-last c = search needs
 
 -- where the function began, and the segment at `place`
-abbrev entry : tie.After-segments-at Inv-loop μ-loop → tie.Start Inv-loop μ-loop
-entry g = g .before .before .before .before .before
+abbrev entry : tie.In-loop Inv-loop μ-loop → tie.Start Inv-loop μ-loop
+entry g = g .before .before .before .before
 
-abbrev segment : tie.After-segments-at Inv-loop μ-loop → Segment
-segment g = segmentOf (layoutOf (entry g .args .abi)) (entry g .args .slot .now) (g .before .before .loop .place / 4)
+abbrev segment : tie.In-loop Inv-loop μ-loop → Segment
+segment g = segmentOf copyLayout (entry g .args .slot .now) (g .before .loop .place / 4)
 
-at-segment : (g : tie.After-segments-at Inv-loop μ-loop)
-    → g .segments-at .result + 2 * g .before .before .loop .place ≡ layoutOf (entry g .args .abi) .segmentsAt + 8 * (g .before .before .loop .place / 4)
-at-segment g = omega (arith, g .segments-at .ensures .0, g .before .before .loop .inv .1)
+at-segment : (g : tie.In-loop Inv-loop μ-loop)
+    → 24 + 2 * g .before .loop .place ≡ copyLayout .segmentsAt + 8 * (g .before .loop .place / 4)
+at-segment g = omega (arith, g .before .loop .inv .1)
 
 -- where that segment does not pass, the whole does not
-fails : (g : tie.After-segments-at Inv-loop μ-loop) (words : List ℕ) → passes (entry g .args .grants .now) (entry g .args .operation) (segment g) ≡ false
-    → Scanned (entry g .args .grants .now) (entry g .args .operation) (entry g .args .start) (segmentsOf (entry g .args .n) (layoutOf (entry g .args .abi)) (entry g .args .slot .now) 0) Counted.Fault words
+fails : (g : tie.In-loop Inv-loop μ-loop) (words : List ℕ) → passes (entry g .args .grants .now) (entry g .args .operation) (segment g) ≡ false
+    → Scanned (entry g .args .grants .now) (entry g .args .operation) (entry g .args .start) (segmentsOf (entry g .args .n) copyLayout (entry g .args .slot .now) 0) Counted.Fault words
 fails g words =
-    fails-at (entry g .args .grants .now) (entry g .args .operation) (entry g .args .start) (layoutOf (entry g .args .abi)) (entry g .args .slot .now)
-    (entry g .args .n) (g .before .before .loop .place / 4) words (omega (arith, g .before .loop-test .taken, g .before .before .loop .inv .1))
+    fails-at (entry g .args .grants .now) (entry g .args .operation) (entry g .args .start) copyLayout (entry g .args .slot .now)
+    (entry g .args .n) (g .before .loop .place / 4) words (omega (arith, g .loop-test .taken, g .before .loop .inv .1))
 
 same-length : tie.Need-same-length Inv-loop μ-loop
 same-length c = search needs
@@ -158,7 +156,7 @@ loop-again c =
     let g = u .before .before in
     let o = entry g in
     let a = o .args in
-    let l = g .before .before .loop in
+    let l = g .before .loop in
     let s = segment g in
     let at-i = at-segment g in
     let frame : u .u32-at .result ≡ s .frame = rw at-i at (u .u32-at .ensures) in
@@ -171,12 +169,12 @@ loop-again c =
     let right = rw frame at (sym (e4 .before .suffices .ensures) ∙ not-false _ (e4 .if4 .left)) in
     let here : l .place ≡ 4 * (l .place / 4) = l .inv .1 in
     let next : (l .place + 4) / 4 ≡ l .place / 4 + 1 = omega arith in
-    let more : l .place / 4 < a .n = omega (arith, g .before .loop-test .taken, here) in
+    let more : l .place / 4 < a .n = omega (arith, g .loop-test .taken, here) in
     let few : l .place / 4 < 11 = omega (arith, more, o .pre .0) in (
       omega (arith, more, here),
       omega (arith, next, here),
       rw (c .wrapping-add-u64 .ensures, put .put .ensures, next)
-          (rw (← here) at (upto-next (a .grants .now) (a .operation) (a .start) (layoutOf (a .abi)) (a .slot .now) (l .place / 4) (l .words) (l .sector) (l .inv .2) few
+          (rw (← here) at (upto-next (a .grants .now) (a .operation) (a .start) copyLayout (a .slot .now) (l .place / 4) (l .words) (l .sector) (l .inv .2) few
           (passes-yes (a .grants .now) (a .operation) s (within-yes s low high) near right) _ _ _ frame first len)),
     )
 
@@ -191,8 +189,8 @@ returns-5 c =
     let a = c .before .before .before .before .before .args in
     let l = c .before .before .loop in
     let e : l .place / 4 ≡ a .n = omega arith in
-    upto-all (a .grants .now) (a .operation) (a .start) (segmentsOf (a .n) (layoutOf (a .abi)) (a .slot .now) 0) (l .words) (l .sector) (c .wrapping-sub-u64 .result)
-    (rw e at (l .inv .2)) (omega (arith, length-segments (a .n) (layoutOf (a .abi)) (a .slot .now) 0)) (omega arith) (c .wrapping-sub-u64 .ensures) (omega arith)
+    upto-all (a .grants .now) (a .operation) (a .start) (segmentsOf (a .n) copyLayout (a .slot .now) 0) (l .words) (l .sector) (c .wrapping-sub-u64 .result)
+    (rw e at (l .inv .2)) (omega (arith, length-segments (a .n) copyLayout (a .slot .now) 0)) (omega arith) (c .wrapping-sub-u64 .ensures) (omega arith)
 
 pub scan-spec : {M : Type 1} → statement M
 scan-spec =
@@ -202,7 +200,6 @@ scan-spec =
     μ-loop
     loop-holds
     mul-loop
-    segments-at-requires
     mul-at
     add-at
     u32-at-requires

@@ -18,15 +18,11 @@ cast-put-values-4 c = search needs
 yes-no-requires : tie.Need-yes-no-requires
 yes-no-requires c κs = search needs
 
-cast-put-values-5 : tie.Need-cast-put-values-5
-cast-put-values-5 c = search needs
-
 put-values-requires : tie.Need-put-values-requires
 put-values-requires c κs = search needs
 
 returns : tie.Need-returns
-returns c =
-    rw (← c .before .before .yes-no .ensures) (c .put-values .ensures)
+returns c = rw (← c .before .yes-no .ensures) (c .put-values .ensures)
 
 pub put-started-spec : {M : Type 1} → statement M
 put-started-spec =
@@ -37,6 +33,5 @@ put-started-spec =
     cast-put-values-3
     cast-put-values-4
     yes-no-requires
-    cast-put-values-5
     put-values-requires
     returns)

@@ -9,11 +9,11 @@ use Rattle.backend.proofs.Completions.{finished-effect}
 use Rattle.backend.proofs.completion.finish.Statement.{statement}
 use Rattle.backend.proofs.completion.finish.Tie as tie
 
-status-of-requires : tie.Need-status-of-requires
-status-of-requires c κs = search needs
-
 release-requires : tie.Need-release-requires
 release-requires c κs = search needs
+
+status-of-requires : tie.Need-status-of-requires
+status-of-requires c κs = search needs
 
 respond-requires : tie.Need-respond-requires
 respond-requires c κs = search needs
@@ -27,9 +27,9 @@ same-length c = search needs
 returns : tie.Need-returns
 returns c =
     let given = c .before .before in
-    let freed = given .before .before in
-    let due = freed .before .before .before .before in
-    let start = due .before .before in
+    let due = given .before .before .before .before in
+    let freed = due .before in
+    let start = freed .before .before .before in
     let a = start .args in
     record {
       effect =
@@ -41,4 +41,4 @@ returns c =
 pub finish-spec : {M : Type 1} → statement M
 finish-spec =
     tie.close
-    (tie.spec status-of-requires release-requires respond-requires cast-t17 same-length returns)
+    (tie.spec release-requires status-of-requires respond-requires cast-t17 same-length returns)

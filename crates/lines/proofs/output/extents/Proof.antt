@@ -13,9 +13,6 @@ abbrev μ-loop : tie.MeasureT-loop
 loop-holds : tie.Need-loop-holds Inv-loop μ-loop
 loop-holds c = search needs
 
-mul-if1 : tie.Need-mul-if1 Inv-loop μ-loop
-mul-if1 c = search needs
-
 add-if2 : tie.Need-add-if2 Inv-loop μ-loop
 add-if2 c = search needs
 
@@ -62,7 +59,6 @@ extents-spec =
     Inv-loop
     μ-loop
     loop-holds
-    mul-if1
     add-if2
     mul-if2
     element-copy-out-if2

@@ -16,7 +16,7 @@ returns : tie.Need-returns
 unfolding paramsFrom portFrom portAt
 returns c =
     let a = c .before .before .args in
-    rw (backend-port-at (a .m .now) (a .k) (omega arith), c .abi-of .ensures)
+    rw (backend-port-at (a .m .now) (a .k) (omega arith), c .abi-of .ensures, c .before .word .ensures)
 
 pub abi-spec : {M : Type 1} → statement M
 abi-spec = tie.close (tie.spec word-requires abi-of-requires returns)

@@ -34,13 +34,19 @@ returns-2 c =
     let a = c .before .before .before .before .before .before .args in
     c .choice-body2 .ensures ∙ body-feature (a .node) (a .text .now) (λ e. omega arith) (omega arith)
 
-protocol-body-requires : tie.Need-protocol-body-requires
-protocol-body-requires c κs = search needs
+slice-aggregate-choice-body-5 : tie.Need-slice-aggregate-choice-body-5
+slice-aggregate-choice-body-5 c = search needs
+
+slice-aggregate-choice-body-6 : tie.Need-slice-aggregate-choice-body-6
+slice-aggregate-choice-body-6 c = search needs
+
+choice-body-requires-3 : tie.Need-choice-body-requires-3
+choice-body-requires-3 c κs = search needs
 
 returns-3 : tie.Need-returns-3
 returns-3 c =
-    let a = c .before .before .before .before .before .args in
-    c .protocol-body .ensures ∙ body-protocol (a .node) (a .text .now) (omega arith)
+    let a = c .before .before .before .before .before .before .before .args in
+    c .choice-body3 .ensures ∙ body-protocol (a .node) (a .text .now) (omega arith)
 
 number-body-requires : tie.Need-number-body-requires
 number-body-requires c κs = search needs
@@ -62,7 +68,9 @@ read-body-spec =
     slice-aggregate-choice-body-4
     choice-body-requires-2
     returns-2
-    protocol-body-requires
+    slice-aggregate-choice-body-5
+    slice-aggregate-choice-body-6
+    choice-body-requires-3
     returns-3
     number-body-requires
     returns-4)

@@ -1,64 +1,52 @@
--- `ring::slot::copy_slot` meets its contract. The invariant: what is written so far is the part read so far. Assumes nothing.
+-- `ring::slot::copy_slot` meets its contract: the two pieces are all that a request is read from (Copy). Assumes nothing.
 use borrow.Author.Needs.{needs}
-use mathlib.Core.Path.{_≡_, refl, sym, _∙_}
-use Prim.Native.Nat.{_-_, _≤_}
 use native.Mathlib.Omega.{arith}
-use lib.ListN.{length, take, length-set}
-use lib.Seq.{take-all}
-use Rattle.wire.specs.Part.{part}
-use Rattle.wire.proofs.Part.{part-more}
-use Rattle.model.specs.Ring.{slotBytes}
+use Rattle.model.specs.Ring.{ringFor}
+use Rattle.model.proofs.Ring.{fits-for}
+use Rattle.ring.proofs.Copy.{request-copied}
 use Rattle.ring.proofs.slot.copy_slot.Statement.{statement}
 use Rattle.ring.proofs.slot.copy_slot.Tie as tie
 
-abbrev Inv-loop : tie.InvT-loop
-Inv-loop rings at out₀ i₀ out i = (i ≤ slotBytes) × (length out ≡ slotBytes) × (take i out ≡ part i rings at)
+slice-aggregate-copy-bytes : tie.Need-slice-aggregate-copy-bytes
+slice-aggregate-copy-bytes c = search needs
 
-abbrev μ-loop : tie.MeasureT-loop
-μ-loop rings at out₀ i₀ out i = slotBytes - i
+copy-bytes-requires : tie.Need-copy-bytes-requires
+unfolding ringFor
+copy-bytes-requires c κs = (omega (arith, fits-for (c .before .before .args .abi) .slotEnd), omega arith)
 
-loop-holds : tie.Need-loop-holds Inv-loop μ-loop
-unfolding part
-loop-holds c = (omega arith, refl, refl)
+id-at-requires : tie.Need-id-at-requires
+id-at-requires c κs = search needs
 
-add-out : tie.Need-add-out Inv-loop μ-loop
-add-out c = search needs
+add-copy-bytes : tie.Need-add-copy-bytes
+add-copy-bytes c = search needs
 
-shared-slice-read-out : tie.Need-shared-slice-read-out Inv-loop μ-loop
-shared-slice-read-out c = search needs
+slice-aggregate-copy-bytes-2 : tie.Need-slice-aggregate-copy-bytes-2
+slice-aggregate-copy-bytes-2 c = search needs
 
-array-write-out : tie.Need-array-write-out Inv-loop μ-loop
-array-write-out c = search needs
+copy-bytes-requires-2 : tie.Need-copy-bytes-requires-2
+unfolding ringFor
+copy-bytes-requires-2 c κs =
+    let a = c .before .before .before .before .before .before .args in
+    (omega (arith, c .before .id-at .ensures .0, fits-for (a .abi) .slotEnd), omega arith)
 
-add-i : tie.Need-add-i Inv-loop μ-loop
-add-i c = search needs
-
-loop-less : tie.Need-loop-less Inv-loop μ-loop
-loop-less c = search needs
-
-loop-again : tie.Need-loop-again Inv-loop μ-loop
-loop-again c =
-    let a = c .before .before .before .args in
-    let l = c .before .before .loop in
-    (omega arith, simp length-set (omega arith), part-more (l .out) (a .rings .now) (a .at) (l .i) (omega arith) (omega arith) (l .inv .2))
-
-returns : tie.Need-returns Inv-loop μ-loop
+returns : tie.Need-returns
 returns c =
-    let l = c .before .loop in
-    let e : l .i ≡ slotBytes = omega arith in
-    sym (take-all slotBytes (l .out) (omega arith)) ∙ (rw e at (l .inv .2))
+    let rest = c .before in
+    let id = rest .before .before in
+    let head = id .before .before in
+    let start = head .before .before .before in
+    let a = start .args in
+    request-copied (a .abi) (a .rings .now) _ _ _ (a .at) (start .pre) (omega arith) (head .copy-bytes .ensures)
+    (rw (id .id-at .ensures .0) at (rest .copy-bytes2 .ensures))
 
 pub copy-slot-spec : {M : Type 1} → statement M
 copy-slot-spec =
     tie.close
     (tie.spec
-    Inv-loop
-    μ-loop
-    loop-holds
-    add-out
-    shared-slice-read-out
-    array-write-out
-    add-i
-    loop-less
-    loop-again
+    slice-aggregate-copy-bytes
+    copy-bytes-requires
+    id-at-requires
+    add-copy-bytes
+    slice-aggregate-copy-bytes-2
+    copy-bytes-requires-2
     returns)

@@ -7,11 +7,12 @@ use mathlib.Core.Path.{_≡_, refl, sym, ap, _∙_}
 use Rattle.wire.specs.Part.{part}
 use Rattle.model.specs.Buffers.{pageShare, grantsOf}
 use Rattle.model.specs.Plan.{wordsBeside}
-use Rattle.model.specs.Ring.{slotBytes, ringOf, slotAt, requestIn}
+use Rattle.model.specs.Ring.{ringOf, slotAt}
+use Rattle.layout.specs.Copy.{requestIn}
 use Rattle.request.proofs.Expected.{expected-fits}
 use Rattle.memory.specs.Backend.{backendOf}
 use Rattle.turn.specs.Serve.{Reads}
-use Rattle.turn.proofs.Taking.{slot-within, took-declined, took-started}
+use Rattle.turn.proofs.Taking.{slot-within, lentRequest, took-declined, took-started}
 use Rattle.turn.proofs.serve.take.Statement.{statement}
 use Rattle.turn.proofs.serve.take.Tie as tie
 
@@ -25,18 +26,25 @@ placed-at x =
     let placed = x .before .before .before .before in
     rw (x .port-at .ensures, ← x .before .before .before .before .before .abi .ensures, ← x .before .before .before .before .before .before .before .consumed .ensures) (placed .slot-at .ensures)
 
--- and that it is the port's
+-- the copy has the request of that slot
+asked : (x : tie.After-port-at) → requestIn (x .before .before .copy-slot .result) ≡ lentRequest (entry x .args .rings .now) (entry x .args .k) (x .port-at .result)
+asked x =
+    let kind = x .before .before .before .before .before in
+    let e : kind .abi .result ≡ x .port-at .result .params .abi = rw (x .port-at .ensures) (kind .abi .ensures) in
+    rw (e, placed-at x) at (x .before .before .copy-slot .ensures)
+
+-- and the port is its own
 own : (x : tie.After-port-at) → Reads (backendOf (entry x .args .memory .now)) (entry x .args .k) (x .port-at .result)
 own x = record { port = entry x .pre .0 .reads .port; read = x .port-at .ensures }
 
 consumed-requires : tie.Need-consumed-requires
 consumed-requires c κs = search needs
 
-mul-at : tie.Need-mul-at
-mul-at c = search needs
-
 abi-requires : tie.Need-abi-requires
 abi-requires c κs = search needs
+
+mul-at : tie.Need-mul-at
+mul-at c = search needs
 
 slot-at-requires : tie.Need-slot-at-requires
 slot-at-requires c κs = search needs
@@ -98,7 +106,7 @@ start-requires c κs =
     let told = c .before .before in
     let judged = told .before .before .before .before .before .before in
     let x = judged .before .before .before .before .before in
-    (rw (x .port-at .ensures) (entry x .pre .0), expected-fits _ _ _ _ (sym (judged .judge .ensures .verdict) ∙ told .verdict2 .given .1))
+    (rw (x .port-at .ensures) (entry x .pre .0), expected-fits _ _ _ _ _ (sym (judged .judge .ensures .verdict) ∙ told .verdict2 .given .1))
 
 same-length : tie.Need-same-length
 same-length c = search needs
@@ -117,11 +125,10 @@ returns c =
     let copied = x .before .before in
     let a = entry x .args in
     let said = judged .judge .ensures in
-    took-declined (a .memory .now) (a .rings .now) (a .grants .now) (a .k) (x .port-at .result) (own x) (copied .copy-slot .result)
-    (copied .copy-slot .ensures ∙ ap (λ (i : ℕ). part slotBytes (a .rings .now) (pageShare * a .k + i)) (placed-at x))
+    took-declined (a .memory .now) (a .rings .now) (a .grants .now) (a .k) (x .port-at .result) (own x) (copied .copy-slot .result) (asked x)
     (judged .judge .result) (rw add-sub-cancel-left at (said .verdict))
     (paired .pair-of .result) (paired .pair-of .ensures)
-    _ _ (said .beside ∙ ap (wordsBeside (requestIn (x .port-at .result .params) (copied .copy-slot .result))) (sym (said .verdict)))
+    _ _ (said .beside ∙ ap (wordsBeside (requestIn (copied .copy-slot .result))) (sym (said .verdict)))
     _ _ _ _ (told .verdict .given .1) (done .decline .ensures)
 
 same-length-3 : tie.Need-same-length-3
@@ -140,11 +147,10 @@ returns-2 c =
     let copied = x .before .before in
     let a = entry x .args in
     let said = judged .judge .ensures in
-    took-started (a .memory .now) (a .rings .now) (a .grants .now) (a .k) (x .port-at .result) (own x) (copied .copy-slot .result)
-    (copied .copy-slot .ensures ∙ ap (λ (i : ℕ). part slotBytes (a .rings .now) (pageShare * a .k + i)) (placed-at x))
+    took-started (a .memory .now) (a .rings .now) (a .grants .now) (a .k) (x .port-at .result) (own x) (copied .copy-slot .result) (asked x)
     (judged .judge .result) (rw add-sub-cancel-left at (said .verdict))
     (paired .pair-of .result) (paired .pair-of .ensures)
-    _ _ (said .beside ∙ ap (wordsBeside (requestIn (x .port-at .result .params) (copied .copy-slot .result))) (sym (said .verdict)))
+    _ _ (said .beside ∙ ap (wordsBeside (requestIn (copied .copy-slot .result))) (sym (said .verdict)))
     _ _ _ (told .verdict2 .given .1) refl (c .start .ensures)
 
 pub take-spec : {M : Type 1} → statement M
@@ -152,8 +158,8 @@ take-spec =
     tie.close
     (tie.spec
     consumed-requires
-    mul-at
     abi-requires
+    mul-at
     slot-at-requires
     add-at
     copy-slot-requires
