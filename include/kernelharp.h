@@ -46,16 +46,42 @@ uint32_t kh_memory_words(void);
 #define KH_TURN_WORDS   64    /* answer of kh_turn */
 #define KH_DONE_WORDS   4     /* answer of kh_complete */
 
-/* A port's ring page: a header of four 32-bit indices, then the slots. Index i lives in slot i modulo KH_SLOTS. */
-#define KH_RING_BYTES     4096
-#define KH_REQ_PROD       0  /* the guest's: requests published */
-#define KH_REQ_EVENT      4  /* ours: the guest notifies when req_prod gets here */
-#define KH_RSP_PROD       8  /* ours: responses published */
-#define KH_RSP_EVENT      12 /* the guest's: we notify when rsp_prod gets here */
-#define KH_HEADER_BYTES   64 /* slot s is at KH_HEADER_BYTES + KH_SLOT_BYTES * s */
-#define KH_SLOTS          32
-#define KH_SLOT_BYTES     112
-#define KH_RESPONSE_BYTES 16 /* a response is the begin of its slot; the slot's other bytes stay */
+/*
+ * A port's ring page: a header of four 32-bit indices, then the slots. Index i lives in slot i modulo KH_SLOTS. A slot
+ * has a request, and later a response at its begin; the slot's other bytes stay. How long they are is up to the guest's
+ * layout, see enum kh_abi; the header is the same in both.
+ */
+#define KH_RING_BYTES       4096
+#define KH_REQ_PROD         0   /* the guest's: requests published */
+#define KH_REQ_EVENT        4   /* ours: the guest notifies when req_prod gets here */
+#define KH_RSP_PROD         8   /* ours: responses published */
+#define KH_RSP_EVENT        12  /* the guest's: we notify when rsp_prod gets here */
+#define KH_HEADER_BYTES     64  /* slot s is at KH_HEADER_BYTES + kh_slot_bytes(abi) * s */
+#define KH_SLOTS            32  /* in both layouts */
+#define KH_SLOT_BYTES       112 /* a slot of a 64-bit guest; none is larger */
+#define KH_SLOT32_BYTES     108 /* a slot of a 32-bit guest */
+#define KH_RESPONSE_BYTES   16  /* a response to a 64-bit guest; none is larger */
+#define KH_RESPONSE32_BYTES 12  /* a response to a 32-bit guest */
+
+/*
+ * How a guest lays out its requests and responses: its protocol. Ports of both layouts share a backend. A slot's bytes:
+ *
+ *                                       64-bit    32-bit
+ *     request
+ *       operation                       0         0
+ *       number of segments, or flag     1         1
+ *       id                              8         4
+ *       start                           16        12
+ *       segments, or sectors            24        20
+ *     response
+ *       id, operation, 0, status        0, 8, 9 and 10, in both
+ *       zeros                           12 to 15  none
+ *     bytes that a response leaves      16 to 111 12 to 107
+ */
+enum kh_abi {
+    KH_BITS64 = 0, /* "x86_64-abi", and a sheet that names no protocol */
+    KH_BITS32 = 1  /* "x86_32-abi" */
+};
 
 /* A port's grants: byte g speaks of frame g. Any other value is none; frames from KH_PORT_GRANTS up aren't granted. */
 #define KH_PORT_GRANTS      1024
@@ -77,7 +103,7 @@ enum kh_node {
     KH_NODE_DISCARD_SECURE = 5,  /* discard-secure */
     KH_NODE_SECTOR_SIZE = 6,     /* 512, 1024, 2048 or 4096; must be there */
     KH_NODE_SECTORS = 7,         /* of 512 bytes, 0 to 2^64 - 1; must be there */
-    KH_NODE_PROTOCOL = 8,        /* "x86_64-abi", also when absent */
+    KH_NODE_PROTOCOL = 8,        /* "x86_64-abi", also when absent, or "x86_32-abi": enum kh_abi */
     KH_NODE_RING_PAGE_ORDER = 9, /* "0", also when absent */
     KH_NODES = 9
 };
@@ -213,6 +239,43 @@ uint32_t kh_turn(kh_memory *memory, uint8_t *rings, size_t rings_bytes, const ui
 uint32_t kh_complete(kh_memory *memory, uint8_t *rings, size_t rings_bytes, uint32_t port, uint32_t tag,
                      uint32_t serial, int32_t result, uint64_t *answer);
 
+/* Whether the bytes are that text. */
+static inline bool kh_is_text(const uint8_t *bytes, size_t count, const char *text) {
+    size_t i = 0;
+    while (i < count && text[i] != '\0' && bytes[i] == (uint8_t)text[i])
+        i++;
+    return i == count && text[i] == '\0';
+}
+
+/*
+ * The layout of the guest that a sheet is for: what a host has to know of the sheet that it opened a port with, to copy
+ * slots and responses. Any bytes may be given, and none outside them is read; of a sheet that kh_open refuses, the
+ * answer says nothing.
+ */
+static inline enum kh_abi kh_read_abi(const uint8_t *sheet, size_t sheet_bytes) {
+    size_t entries = sheet_bytes > 0 ? sheet[0] : 0;
+    size_t body = 1 + 4 * entries;
+    size_t i;
+    for (i = 0; i < entries && body <= sheet_bytes; i++) {
+        const uint8_t *entry = sheet + 1 + 4 * i;
+        size_t length = entry[2] + (size_t)256 * entry[3];
+        if (entry[0] == KH_NODE_PROTOCOL && length <= sheet_bytes - body &&
+            kh_is_text(sheet + body, length, "x86_32-abi"))
+            return KH_BITS32;
+        body += length;
+    }
+    return KH_BITS64;
+}
+
+/* The bytes of a slot, and of a response, in a layout. */
+static inline size_t kh_slot_bytes(enum kh_abi abi) {
+    return abi == KH_BITS32 ? KH_SLOT32_BYTES : KH_SLOT_BYTES;
+}
+
+static inline size_t kh_response_bytes(enum kh_abi abi) {
+    return abi == KH_BITS32 ? KH_RESPONSE32_BYTES : KH_RESPONSE_BYTES;
+}
+
 /* A run of sectors in one frame, and where on the disk it goes. */
 typedef struct {
     uint32_t frame;  /* grant reference, below KH_PORT_GRANTS */
@@ -312,6 +375,9 @@ KH_HOLDS(rings_are_a_page_a_port, KH_RINGS_BYTES == KH_PORTS * KH_RING_BYTES);
 KH_HOLDS(grants_are_a_share_a_port, KH_GRANTS_BYTES == KH_PORTS * KH_PORT_GRANTS);
 KH_HOLDS(slots_fit_the_page, KH_HEADER_BYTES + KH_SLOTS * KH_SLOT_BYTES <= KH_RING_BYTES);
 KH_HOLDS(a_response_fits_its_slot, KH_RESPONSE_BYTES <= KH_SLOT_BYTES);
+KH_HOLDS(no_slot_is_larger, KH_SLOT32_BYTES <= KH_SLOT_BYTES);
+KH_HOLDS(no_response_is_larger, KH_RESPONSE32_BYTES <= KH_RESPONSE_BYTES);
+KH_HOLDS(both_keep_as_much_of_a_slot, KH_SLOT32_BYTES - KH_RESPONSE32_BYTES == KH_SLOT_BYTES - KH_RESPONSE_BYTES);
 KH_HOLDS(extents_fit_the_answer, KH_TURN_EXTENTS + KH_EXTENTS * KH_EXTENT_WORDS <= KH_TURN_WORDS);
 #undef KH_HOLDS
 

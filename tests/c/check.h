@@ -10,13 +10,13 @@
 #endif
 
 #include <signal.h>
+#include <stdbool.h>
+#include <stdint.h>
 #include <stdio.h>
 #include <stdlib.h>
 #include <string.h>
 #include <sys/mman.h>
 #include <unistd.h>
-
-#include "kernelharp.h"
 
 /* ---- checks */
 

@@ -1,5 +1,6 @@
 /* kernelharp.h as C99, C11 and C++17: this file is compiled as each, linked with the archive, and run. */
 #include "check.h"
+#include "kernelharp.h"
 
 static kh_memory memory;
 static uint8_t rings[KH_RINGS_BYTES];
@@ -26,6 +27,22 @@ static void check_names(void) {
     check_named(calls, COUNT_OF(calls), 0);
     check_named(sheets, COUNT_OF(sheets), 11);
     check_named(reasons, COUNT_OF(reasons), 21);
+}
+
+/* A sheet with its protocol named, "x86_32-abi" or another of ten letters. */
+static enum kh_abi abi_of_protocol(const char *protocol) {
+    uint8_t sheet[1 + 4 + 10] = {1, KH_NODE_PROTOCOL, 0, 10, 0};
+    memcpy(sheet + 5, protocol, 10);
+    return kh_read_abi(sheet, sizeof sheet);
+}
+
+static void check_layouts(void) {
+    CHECK_EQ(abi_of_protocol("x86_64-abi"), KH_BITS64);
+    CHECK_EQ(abi_of_protocol("x86_32-abi"), KH_BITS32);
+    CHECK_EQ(kh_slot_bytes(KH_BITS64), 112);
+    CHECK_EQ(kh_slot_bytes(KH_BITS32), 108);
+    CHECK_EQ(kh_response_bytes(KH_BITS64), 16);
+    CHECK_EQ(kh_response_bytes(KH_BITS32), 12);
 }
 
 /* A guest's read of sectors 8 to 15 into frame 9, on port 1. */
@@ -101,6 +118,7 @@ int main(void) {
     running.name = "header";
     check_archive_matches_header();
     check_names();
+    check_layouts();
     check_calls();
     check_turn_reader();
     check_completion_reader();

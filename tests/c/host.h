@@ -6,6 +6,7 @@
 #define HOST_H
 
 #include "check.h"
+#include "kernelharp.h"
 
 /* What was lent, in the order of the buffers below. */
 enum area { MEMORY, RINGS, GRANTS, TURNED, COMPLETED, AREAS };
@@ -17,9 +18,22 @@ typedef struct {
     int64_t expected; /* the result that gives okay */
 } started;
 
+/* How a guest lays out a slot (rules 2.3 to 2.10): its bytes, a response's, and where a request has its fields. */
+typedef struct {
+    const char *protocol;
+    unsigned slot, response;
+    unsigned id, start, segments;
+} layout;
+
+static const layout layouts[] = {
+    [KH_BITS64] = {"x86_64-abi", 112, 16, 8, 16, 24},
+    [KH_BITS32] = {"x86_32-abi", 108, 12, 4, 12, 20},
+};
+
 /* What the answers so far say of a port. */
 typedef struct {
     bool open;
+    enum kh_abi abi;
     uint32_t taken;
     uint32_t answered;
     uint32_t busy;
@@ -31,6 +45,7 @@ typedef struct {
     uint8_t *before[AREAS]; /* as it was before the last call */
     size_t bytes[AREAS];
     book books[KH_PORTS];
+    enum kh_abi abi; /* of the ports that are opened by nodes that name no protocol */
 } host;
 
 static inline uint64_t *words(const host *h, enum area area) {
@@ -53,8 +68,23 @@ static inline void set_index(const host *h, uint32_t port, unsigned field, uint3
     put(ring(h, port) + field, 4, value);
 }
 
+static inline const layout *layout_of(const host *h, uint32_t port) {
+    return &layouts[h->books[port].abi];
+}
+
+/* Where a slot lies in its page. */
+static inline unsigned slot_offset(const layout *l, uint32_t index) {
+    return KH_HEADER_BYTES + l->slot * (index % KH_SLOTS);
+}
+
+/* A slot of a port's ring. */
+static inline uint8_t *slot_of(const host *h, uint32_t port, uint32_t index) {
+    return ring(h, port) + slot_offset(layout_of(h, port), index);
+}
+
+/* A slot of a 64-bit guest's page. */
 static inline uint8_t *slot_in(uint8_t *page, uint32_t index) {
-    return page + KH_HEADER_BYTES + KH_SLOT_BYTES * (index % KH_SLOTS);
+    return page + slot_offset(&layouts[KH_BITS64], index);
 }
 
 static inline void grant(const host *h, uint32_t port, uint32_t frame, uint8_t value) {
@@ -113,13 +143,14 @@ static inline void check_kept(const host *h, uint32_t number, unsigned changes) 
 
 /* Puts a port's next response into the page that it was before the call, and checks the call's notify. */
 static inline void expect_response(host *h, uint32_t port, const started *request, uint64_t status, uint64_t notify) {
+    const layout *l = layout_of(h, port);
     uint8_t *page = h->before[RINGS] + KH_RING_BYTES * port;
-    uint8_t *slot = slot_in(page, h->books[port].answered++);
+    uint8_t *slot = page + slot_offset(l, h->books[port].answered++);
     CHECK_EQ(notify, get(page + KH_RSP_EVENT, 4) == h->books[port].answered);
     put(slot, 8, request->id);
     put(slot + 8, 2, request->operation);
     put(slot + 10, 2, 0 - status);
-    put(slot + 12, 4, 0);
+    put(slot + 12, l->response - 12, 0);
     put(page + KH_RSP_PROD, 4, h->books[port].answered);
 }
 
@@ -172,8 +203,9 @@ static inline void check_turn(host *h) {
     const uint64_t *answer = words(h, TURNED);
     uint32_t port = (uint32_t)(answer[KH_TURN_PORT] % KH_PORTS);
     book *b = &h->books[port];
-    const uint8_t *slot = slot_in(h->before[RINGS] + KH_RING_BYTES * port, b->taken);
-    started request = {get(slot + 8, 8), slot[0], 0, 0};
+    const layout *l = layout_of(h, port);
+    const uint8_t *slot = h->before[RINGS] + KH_RING_BYTES * port + slot_offset(l, b->taken);
+    started request = {get(slot + l->id, 8), slot[0], 0, 0};
     CHECK(answer[KH_TURN_KIND] <= KH_OVERRUN && answer[KH_TURN_PORT] < KH_PORTS);
     CHECK(answer[KH_TURN_KIND] == KH_IDLE || b->open);
     if (answer[KH_TURN_KIND] == KH_IDLE)
@@ -209,9 +241,11 @@ static inline void check_completion(host *h, uint32_t port, uint32_t tag, uint32
 
 static inline uint32_t do_open(host *h, uint32_t port, const uint8_t *sheet, size_t bytes) {
     uint8_t *lent = bytes > 0 ? lend(bytes) : NULL;
+    enum kh_abi abi;
     uint32_t number;
     if (bytes > 0)
         memcpy(lent, sheet, bytes);
+    abi = kh_read_abi(lent, bytes);
     remember(h);
     number = kh_open(memory_of(h), port, lent, bytes);
     check_kept(h, number, 1 << MEMORY);
@@ -222,6 +256,7 @@ static inline uint32_t do_open(host *h, uint32_t port, const uint8_t *sheet, siz
     if (number == KH_OK) {
         memset(&h->books[port], 0, sizeof h->books[port]);
         h->books[port].open = true;
+        h->books[port].abi = abi;
     }
     return number;
 }

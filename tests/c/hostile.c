@@ -48,12 +48,14 @@ static const struct {
 static unsigned long came[CALL_COUNT][LAST_NUMBER + 1];
 static unsigned long kinds[KH_OVERRUN + 1];
 static unsigned long reasons[KH_UNALIGNED + 1];
+static unsigned long responses[COUNT_OF(layouts)];
 
 static void begin_counts(void) {
     state = seed;
     memset(came, 0, sizeof came);
     memset(kinds, 0, sizeof kinds);
     memset(reasons, 0, sizeof reasons);
+    memset(responses, 0, sizeof responses);
 }
 
 static void count(const host *h, enum call call, uint32_t number) {
@@ -76,10 +78,11 @@ static void print_counts(void) {
     for (unsigned kind = 0; kind < COUNT_OF(kinds); kind++)
         printf(" kind %u: %lu,", kind, kinds[kind]);
     for (unsigned reason = KH_UNKNOWN_OPERATION; reason < COUNT_OF(reasons); reason++)
-        printf(" reason %u: %lu%s", reason, reasons[reason], reason < KH_UNALIGNED ? "," : "\n");
+        printf(" reason %u: %lu,", reason, reasons[reason]);
+    printf(" responses, 64-bit: %lu, 32-bit: %lu\n", responses[KH_BITS64], responses[KH_BITS32]);
 }
 
-/* All numbers came, kinds and reasons too. */
+/* All numbers came, kinds and reasons too, and responses of both layouts. */
 static void end_counts(void) {
     for (int call = 0; call < CALL_COUNT; call++)
         for (unsigned number = 0; number <= LAST_NUMBER; number++)
@@ -88,6 +91,8 @@ static void end_counts(void) {
         CHECK(kinds[kind] > 0);
     for (unsigned reason = KH_UNKNOWN_OPERATION; reason < COUNT_OF(reasons); reason++)
         CHECK(reasons[reason] > 0);
+    for (unsigned abi = 0; abi < COUNT_OF(responses); abi++)
+        CHECK(responses[abi] > 0);
     if (placement != BEFORE_GUARD || running.failures > 0)
         print_counts(); /* the same in both places */
 }
@@ -112,6 +117,11 @@ static sheet any_sheet(void) {
                                        "1:r 2:1 3:1 4:1 6:512 7:2008",
                                        "1:w 2:1 3:1 4:1 5:0 6:4096 7:2008 8:x86_64-abi 9:0",
                                        "1:w 4:1 5:1 6:1024 7:18446744073709551615",
+                                       USUAL_NODES " 8:x86_32-abi",
+                                       ALL_FEATURES " 8:x86_32-abi",
+                                       "1:r 2:1 3:1 4:1 6:512 7:2008 8:x86_32-abi",
+                                       "1:w 2:1 3:1 4:1 5:0 6:4096 7:2008 8:x86_32-abi 9:0",
+                                       "1:w 4:1 5:1 6:1024 7:18446744073709551615 8:x86_32-abi",
                                        "1:w 6:512",
                                        "1:w 6:513 7:1"};
     sheet s = sheet_of(good[below(COUNT_OF(good))]);
@@ -157,7 +167,7 @@ static void guest_writes(const host *h, uint32_t port) {
     for (uint32_t i = below(4); i > 0; i--)
         post(h, port, any_request());
     if (one_in(6))
-        fill(slot_in(ring(h, port), (uint32_t)any()), KH_SLOT_BYTES);
+        fill(slot_of(h, port, (uint32_t)any()), layout_of(h, port)->slot);
     if (one_in(40))
         set_index(h, port, KH_REQ_PROD, (uint32_t)any());
     if (one_in(200))
@@ -193,6 +203,19 @@ static void call_open(host *h) {
     count(h, CALL_OPEN, OPEN(h, any_port(), s.bytes, s.length));
 }
 
+/* Counts the response of a call that was done. */
+static void count_response(const host *h, uint64_t port) {
+    responses[h->books[port % KH_PORTS].abi]++;
+}
+
+static void call_turn(host *h) {
+    const uint64_t *answer = words(h, TURNED);
+    uint32_t number = TURN(h);
+    count(h, CALL_TURN, number);
+    if (number == KH_OK && answer[KH_TURN_KIND] == KH_ANSWERED)
+        count_response(h, answer[KH_TURN_PORT]);
+}
+
 static void call_complete(host *h) {
     uint32_t port = any_port();
     uint32_t tag = one_in(16) ? (uint32_t)any() : below(KH_TAGS);
@@ -202,7 +225,10 @@ static void call_complete(host *h) {
             tag = (tag + 1) % KH_TAGS;
     const started *request = &b->tags[tag % KH_TAGS];
     uint32_t serial = one_in(16) ? (uint32_t)any() : request->serial;
-    count(h, CALL_COMPLETE, COMPLETE(h, port, tag, serial, any_result(request)));
+    uint32_t number = COMPLETE(h, port, tag, serial, any_result(request));
+    count(h, CALL_COMPLETE, number);
+    if (number == KH_OK)
+        count_response(h, port);
 }
 
 static void call_any(host *h) {
@@ -212,7 +238,7 @@ static void call_any(host *h) {
     else if (draw < 20)
         count(h, CALL_CLOSE, CLOSE(h, any_port()));
     else if (draw < 60)
-        count(h, CALL_TURN, TURN(h));
+        call_turn(h);
     else
         call_complete(h);
 }
@@ -237,12 +263,24 @@ static void take_over(const host *h, uint32_t port, unsigned at, unsigned bytes)
     memcpy(h->before[RINGS] + KH_RING_BYTES * port + at, ring(h, port) + at, bytes);
 }
 
+/* Whether the page's bytes are the same before and after these ones. */
+static bool is_same_but(const host *h, uint32_t port, unsigned at, unsigned bytes) {
+    const uint8_t *before = h->before[RINGS] + KH_RING_BYTES * port, *after = ring(h, port);
+    return memcmp(before, after, at) == 0 &&
+           memcmp(before + at + bytes, after + at + bytes, KH_RING_BYTES - at - bytes) == 0;
+}
+
+/* The layout is in words that nobody here can read: the last response is of one of them, the shorter one first. */
 static void take_over_response(const host *h, uint64_t port) {
     CHECK(port < KH_PORTS);
     uint32_t k = (uint32_t)port % KH_PORTS;
     uint32_t last = index_at(h, k, KH_RSP_PROD) - 1;
+    int abi = KH_BITS32;
     take_over(h, k, KH_RSP_PROD, 4);
-    take_over(h, k, KH_HEADER_BYTES + KH_SLOT_BYTES * (last % KH_SLOTS), KH_RESPONSE_BYTES);
+    while (abi > KH_BITS64 && !is_same_but(h, k, slot_offset(&layouts[abi], last), layouts[abi].response))
+        abi--;
+    take_over(h, k, slot_offset(&layouts[abi], last), layouts[abi].response);
+    responses[abi]++;
 }
 
 static void turn_on_any_memory(host *h) {

@@ -1,6 +1,6 @@
 /*
  * The listing of docs/HOST.md, run: over live pages it leaves what a host leaves that lends the pages themselves, and
- * answers alike, whatever the guests publish. One thread; the order of two is for host/tests/wakeup.rs.
+ * answers alike, whatever guests of both layouts publish. One thread; the order of two is for host/tests/wakeup.rs.
  */
 #include "rules.c" /* the listing */
 
@@ -15,7 +15,7 @@ static kh_memory lender;
 
 static kh_turned plans[PLANS]; /* in flight, or completed before */
 static uint32_t published[KH_PORTS];
-static unsigned long came[4], reopened, refused, drawn_back;
+static unsigned long came[4], opened[2], relaid, refused, drawn_back;
 
 static uint64_t state = UINT64_C(0x6B65726E656C6861);
 
@@ -37,15 +37,21 @@ static void guest_writes(uint32_t port, size_t word, uint32_t value) {
     pages[PAGE_WORDS * port + word] = lent[PAGE_WORDS * port + word] = htole32(value);
 }
 
-/* Rubbish half of the time, else a read or write of one sector. */
+/*
+ * Rubbish half of the time, else a read or write of some sectors. In both layouts the segments end the slot, and the
+ * word that the index goes to is half of the id.
+ */
 static void guest_requests(uint32_t port, uint32_t index) {
-    size_t at = slot_word(index);
+    size_t at = slot_word(&ports[port], index), end = at + WORD(ports[port].slot_bytes);
     bool rubbish = below(2) == 0;
-    for (size_t i = 0; i < WORD(KH_SLOT_BYTES); i++)
-        guest_writes(port, at + i, rubbish ? below(UINT32_MAX) : 0);
+    for (size_t word = at; word < end; word++)
+        guest_writes(port, word, rubbish ? below(UINT32_MAX) : 0);
     guest_writes(port, at + 2, index);
-    if (!rubbish)
-        guest_writes(port, at, below(2) | 1 << 8);
+    if (rubbish)
+        return;
+    guest_writes(port, at, below(2) | (1 + below(KH_EXTENTS)) << 8);
+    for (size_t i = 1; i <= KH_EXTENTS; i++)
+        guest_writes(port, end - 2 * i, below(KH_PORT_GRANTS));
 }
 
 static void guest_publishes(uint32_t port, uint32_t req_prod) {
@@ -99,7 +105,11 @@ static void complete_both(const kh_turned *turned, int32_t result) {
 }
 
 static void open_both(uint32_t port) {
-    static const uint8_t sheet[] = "\x03\x01\0\x01\0\x06\0\x03\0\x07\0\x04\0w5122008";
+    static const char *const protocols[] = {"x86_64-abi", "x86_32-abi"};
+    uint8_t sheet[] = "\x04\x01\0\x01\0\x06\0\x03\0\x07\0\x04\0\x08\0\x0A\0w5122008PROTOCOL..";
+    uint32_t abi = below(2);
+    size_t slot_bytes = ports[port].slot_bytes;
+    memcpy(sheet + sizeof sheet - 11, protocols[abi], 10);
     if (ports[port].live == NULL) { /* the guest sets its page up */
         for (size_t i = 0; i < PAGE_WORDS; i++)
             guest_writes(port, i, i == WORD(KH_REQ_EVENT) || i == WORD(KH_RSP_EVENT));
@@ -107,7 +117,8 @@ static void open_both(uint32_t port) {
     }
     uint32_t here = host_open(port, sheet, sizeof sheet - 1, pages + PAGE_WORDS * port);
     same("open", here == kh_open(&lender, port, sheet, sizeof sheet - 1));
-    reopened += here == KH_OK;
+    opened[abi] += here == KH_OK;
+    relaid += slot_bytes != 0 && slot_bytes != ports[port].slot_bytes;
 }
 
 /*
@@ -149,11 +160,15 @@ static void step(uint32_t port) {
 
 int main(void) {
     memset(grants, KH_GRANT_READ_WRITE, sizeof grants);
+    for (uint32_t port = 0; port < KH_PORTS; port++) /* so that each has a layout from here on, closed or not */
+        open_both(port);
     for (int i = 0; i < STEPS; i++)
         step(below(KH_PORTS));
-    printf("     %d steps: idle %lu, started %lu, answered %lu, overrun %lu, opened %lu, completions refused %lu, "
-           "drawn back %lu\n",
-           STEPS, came[KH_IDLE], came[KH_STARTED], came[KH_ANSWERED], came[KH_OVERRUN], reopened, refused, drawn_back);
+    printf("     %d steps: idle %lu, started %lu, answered %lu, overrun %lu, opened 64-bit %lu, 32-bit %lu, "
+           "in another layout than before %lu, completions refused %lu, drawn back %lu\n",
+           STEPS, came[KH_IDLE], came[KH_STARTED], came[KH_ANSWERED], came[KH_OVERRUN], opened[KH_BITS64],
+           opened[KH_BITS32], relaid, refused, drawn_back);
     bool all = came[KH_IDLE] && came[KH_STARTED] && came[KH_ANSWERED] && came[KH_OVERRUN];
-    return all && reopened > KH_PORTS && refused && drawn_back ? 0 : 1;
+    bool both = opened[KH_BITS64] > KH_PORTS && opened[KH_BITS32] > KH_PORTS && relaid;
+    return all && both && refused && drawn_back ? 0 : 1;
 }

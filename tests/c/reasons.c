@@ -1,4 +1,4 @@
-/* One test or more for each reason (rules 8.21 to 8.29), on both sides of its line. */
+/* One test or more for each reason (rules 8.21 to 8.29), on both sides of its line, in both layouts. */
 #include "test.h"
 
 static request with_segment(request r, int i, uint32_t frame, uint8_t first, uint8_t last) {
@@ -177,7 +177,7 @@ static void reason_28_past_end(host *h) {
     CHECK_EQ(words(h, TURNED)[KH_TURN_START], 0);
     BEGIN(h, "1:w 6:4096 7:0");
     CHECK_EQ(JUDGE(h, transfer(KH_READ, 1, 4)), 28); /* before 29 */
-    BEGIN(h, "1:w 6:4096 7:2008"); /* sectors of 512 bytes all the same */
+    BEGIN(h, "1:w 6:4096 7:2008");                   /* sectors of 512 bytes all the same */
     CHECK_EQ(JUDGE(h, transfer(KH_READ, 1, 2000)), 0);
     CHECK_EQ(JUDGE(h, transfer(KH_READ, 1, 2008)), 28);
 }
@@ -240,5 +240,5 @@ int main(void) {
         TEST(reason_29_misaligned),
         TEST(reason_29_total_count),
     };
-    return run_tests(tests, COUNT_OF(tests));
+    return run_in_both_layouts(tests, COUNT_OF(tests));
 }

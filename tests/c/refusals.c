@@ -1,4 +1,4 @@
-/* One test or more for each refusal number from 1 to 6, on both sides of its line. */
+/* One test or more for each refusal number from 1 to 6, on both sides of its line, in both layouts. */
 #include "test.h"
 
 static void refusal_01_wrong_length_in_turn(host *h) {
@@ -154,5 +154,5 @@ int main(void) {
         TEST(refusal_06_tag_31_is_a_tag),       TEST(refusal_06_not_busy),
         TEST(refusal_06_another_serial),
     };
-    return run_tests(tests, COUNT_OF(tests));
+    return run_in_both_layouts(tests, COUNT_OF(tests));
 }

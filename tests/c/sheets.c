@@ -44,7 +44,7 @@ static void refusal_11_empty(host *h) {
 }
 
 static void refusal_11_more_than_9_entries(host *h) {
-    sheet s = sheet_of("1:r 2:0 3:0 4:0 5:0 6:512 7:1 8:x86_64-abi 9:0");
+    sheet s = sheet_of("1:r 2:0 3:0 4:0 5:0 6:512 7:1 8:x86_32-abi 9:0");
     CHECK_EQ(READ_BYTES(h, s), KH_OK);
     s = sheet_of("1:r 2:0 3:0 4:0 5:0 6:512 7:1 8:x86_64-abi 9:0 9:0");
     CHECK_EQ(READ_BYTES(h, s), 11);
@@ -94,25 +94,72 @@ static void refusal_12_not_rising(host *h) {
 }
 
 static void refusal_13_text(host *h) {
-    static const char *const wrong[] = {"1: 6:512 7:1",
-                                        "1:x 6:512 7:1",
-                                        "1:W 6:512 7:1",
-                                        "1:ww 6:512 7:1",
-                                        "1:rw 6:512 7:1",
-                                        "1:w 2: 6:512 7:1",
-                                        "1:w 2:2 6:512 7:1",
-                                        "1:w 2:00 6:512 7:1",
-                                        "1:w 3:2 6:512 7:1",
-                                        "1:w 4:yes 6:512 7:1",
-                                        "1:w 5:01 6:512 7:1",
-                                        "1:w 6:512 7:1 8:",
-                                        "1:w 6:512 7:1 8:x86_32-abi",
-                                        "1:w 6:512 7:1 8:x86_64-ab",
-                                        "1:w 6:512 7:1 8:x86_64-abii"};
+    static const char *const wrong[] = {"1: 6:512 7:1",        "1:x 6:512 7:1",      "1:W 6:512 7:1",
+                                        "1:ww 6:512 7:1",      "1:rw 6:512 7:1",     "1:w 2: 6:512 7:1",
+                                        "1:w 2:2 6:512 7:1",   "1:w 2:00 6:512 7:1", "1:w 3:2 6:512 7:1",
+                                        "1:w 4:yes 6:512 7:1", "1:w 5:01 6:512 7:1"};
     static const char *const right[] = {"1:r 6:512 7:1", "1:w 6:512 7:1", "1:w 2:0 3:1 4:0 5:1 6:512 7:1",
-                                        "1:w 2:1 3:0 4:1 5:0 6:512 7:1", "1:w 6:512 7:1 8:x86_64-abi"};
+                                        "1:w 2:1 3:0 4:1 5:0 6:512 7:1"};
     READ_EACH(h, wrong, 13);
     READ_EACH(h, right, KH_OK);
+}
+
+/* Each name is taken as it is, and with one letter less, more or changed it is not. */
+static void refusal_13_protocol(host *h) {
+    static const char *const wrong[] = {
+        "1:w 6:512 7:1 8:",           "1:w 6:512 7:1 8:x86_64-ab",   "1:w 6:512 7:1 8:x86_64-abii",
+        "1:w 6:512 7:1 8:x86_32-ab",  "1:w 6:512 7:1 8:x86_32-abii", "1:w 6:512 7:1 8:x86_62-abi",
+        "1:w 6:512 7:1 8:x86_34-abi", "1:w 6:512 7:1 8:X86_32-abi",  "1:w 6:512 7:1 8:x86-32-abi",
+        "1:w 6:512 7:1 8:32",         "1:w 6:512 7:1 8:x86_32",      "1:w 6:512 7:1 8:arm-abi"};
+    READ_EACH(h, wrong, 13);
+    for (int abi = KH_BITS64; abi <= KH_BITS32; abi++) {
+        sheet s = sheet_of(USUAL_NODES " 8:x86_64-abi");
+        memcpy(s.bytes + s.length - 10, layouts[abi].protocol, 10);
+        CHECK_EQ(READ_BYTES(h, s), KH_OK);
+        for (size_t letter = 1; letter <= 10; letter++) {
+            uint8_t *changed = &s.bytes[s.length - letter];
+            *changed ^= 0x20;
+            CHECK_EQ(READ_BYTES(h, s), 13);
+            *changed ^= 0x20;
+        }
+    }
+}
+
+static enum kh_abi abi_of(const char *nodes) {
+    sheet s = sheet_of(nodes);
+    return kh_read_abi(s.bytes, s.length);
+}
+
+/* What kh_read_abi says of the sheets that are taken, wherever the protocol stands among the nodes. */
+static void layout_that_a_sheet_asks_for(host *h) {
+    static const char *const bits64[] = {USUAL_NODES, USUAL_NODES " 8:x86_64-abi", USUAL_NODES " 9:0",
+                                         ALL_FEATURES " 8:x86_64-abi 9:0"};
+    static const char *const bits32[] = {USUAL_NODES " 8:x86_32-abi", "1:r 6:4096 7:0 8:x86_32-abi 9:0",
+                                         ALL_FEATURES " 8:x86_32-abi 9:0"};
+    READ_EACH(h, bits64, KH_OK);
+    READ_EACH(h, bits32, KH_OK);
+    for (size_t i = 0; i < COUNT_OF(bits64); i++)
+        CHECK_EQ(abi_of(bits64[i]), KH_BITS64);
+    for (size_t i = 0; i < COUNT_OF(bits32); i++)
+        CHECK_EQ(abi_of(bits32[i]), KH_BITS32);
+}
+
+/* Of other bytes it says something too, and looks at none beside them: every byte changed, every length. */
+static void layout_of_any_bytes(host *h) {
+    sheet s = sheet_of(ALL_FEATURES " 8:x86_32-abi 9:0");
+    (void)h;
+    CHECK_EQ(kh_read_abi(NULL, 0), KH_BITS64);
+    for (size_t length = 1; length <= s.length; length++) {
+        uint8_t *lent = lend(length);
+        for (size_t at = 0; at < length; at++) {
+            memcpy(lent, s.bytes, length);
+            for (int value = 0; value < 256; value += 5) {
+                lent[at] = (uint8_t)value;
+                CHECK(kh_read_abi(lent, length) <= KH_BITS32);
+            }
+        }
+        give_back(lent, length);
+    }
 }
 
 static void refusal_13_not_a_number(host *h) {
@@ -164,6 +211,8 @@ static void refusal_13_14_first_body_at_fault(host *h) {
     CHECK_EQ(READ_NODES(h, "1:w 6:x 7:18446744073709551616"), 13);
     CHECK_EQ(READ_NODES(h, "6:1"), 14); /* before 15 */
     CHECK_EQ(READ_NODES(h, "1:w 7:x"), 13);
+    CHECK_EQ(READ_NODES(h, "1:w 6:512 7:1 8:x86_32-abi 9:1"), 14);
+    CHECK_EQ(READ_NODES(h, "1:w 6:512 7:1 8:x86_31-abi 9:1"), 13);
 }
 
 static void refusal_15_node_missing(host *h) {
@@ -172,6 +221,7 @@ static void refusal_15_node_missing(host *h) {
     CHECK_EQ(READ_NODES(h, "1:w 7:2008"), 15);
     CHECK_EQ(READ_NODES(h, "1:w 6:512"), 15);
     CHECK_EQ(READ_NODES(h, "2:1 3:1 4:1 5:1 8:x86_64-abi 9:0"), 15);
+    CHECK_EQ(READ_NODES(h, "8:x86_32-abi"), 15);
     CHECK_EQ(READ_NODES(h, "1:w 6:512 7:2008"), KH_OK);
 }
 
@@ -186,11 +236,14 @@ int main(void) {
         TEST(refusal_12_node_0_or_above_9),
         TEST(refusal_12_not_rising),
         TEST(refusal_13_text),
+        TEST(refusal_13_protocol),
         TEST(refusal_13_not_a_number),
         TEST(refusal_14_number_not_allowed),
         TEST(refusal_14_long_number),
         TEST(refusal_13_14_first_body_at_fault),
         TEST(refusal_15_node_missing),
+        TEST(layout_that_a_sheet_asks_for),
+        TEST(layout_of_any_bytes),
     };
     return run_tests(tests, COUNT_OF(tests));
 }

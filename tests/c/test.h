@@ -34,8 +34,20 @@ static inline sheet sheet_of(const char *nodes) {
     return s;
 }
 
+/* A sheet from its nodes, and the protocol of a layout where they name none. The 64-bit layout has no need of it. */
+static inline sheet sheet_for(enum kh_abi abi, const char *nodes) {
+    const char *last = strstr(nodes, " 9:");
+    char text[256];
+    if (abi == KH_BITS64 || strstr(nodes, " 8:") != NULL)
+        return sheet_of(nodes);
+    if (last == NULL)
+        last = nodes + strlen(nodes);
+    snprintf(text, sizeof text, "%.*s 8:%s%s", (int)(last - nodes), nodes, layouts[abi].protocol, last);
+    return sheet_of(text);
+}
+
 static inline uint32_t do_open_nodes(host *h, uint32_t port, const char *nodes) {
-    sheet s = sheet_of(nodes);
+    sheet s = sheet_for(h->abi, nodes);
     return do_open(h, port, s.bytes, s.length);
 }
 
@@ -75,20 +87,22 @@ static inline request discard(uint8_t flag, uint64_t start, uint64_t sectors) {
 
 /* Puts a request on a port's ring, the bytes that it doesn't use filled with rubbish, and publishes it. */
 static inline void post(const host *h, uint32_t port, request r) {
+    const layout *l = layout_of(h, port);
     uint32_t index = index_at(h, port, KH_REQ_PROD);
-    uint8_t *slot = slot_in(ring(h, port), index);
-    memset(slot, 0xEE, KH_SLOT_BYTES);
+    uint8_t *slot = slot_of(h, port, index);
+    uint8_t *segments = slot + l->segments;
+    memset(slot, 0xEE, l->slot);
     slot[0] = r.operation;
     slot[1] = r.n;
-    put(slot + 8, 8, FIRST_ID + index);
-    put(slot + 16, 8, r.start);
+    put(slot + l->id, 8, FIRST_ID + index);
+    put(slot + l->start, 8, r.start);
     for (int i = 0; i < KH_EXTENTS; i++) {
-        put(slot + 24 + 8 * i, 4, r.segments[i].frame);
-        slot[28 + 8 * i] = r.segments[i].first;
-        slot[29 + 8 * i] = r.segments[i].last;
+        put(segments + 8 * i, 4, r.segments[i].frame);
+        segments[8 * i + 4] = r.segments[i].first;
+        segments[8 * i + 5] = r.segments[i].last;
     }
     if (r.operation == KH_DISCARD)
-        put(slot + 24, 8, r.sectors);
+        put(segments, 8, r.sectors);
     set_index(h, port, KH_REQ_PROD, index + 1);
 }
 
@@ -140,9 +154,10 @@ static inline void on_fault(int number) {
     _exit(written > 0 ? number : 1);
 }
 
-static inline void run_placed(const test *t, enum placement where) {
+static inline void run_placed(const test *t, enum kh_abi abi, enum placement where) {
     host h;
     memset(&h, 0, sizeof h);
+    h.abi = abi;
     placement = where;
     running.file = NULL;
     reset(&h);
@@ -151,24 +166,40 @@ static inline void run_placed(const test *t, enum placement where) {
         resize(&h, (enum area)area, 0);
 }
 
-/* Runs the tests, each with its buffers in every place; a line for each. */
-static inline int run_tests(const test *tests, size_t count) {
+/* Runs a test with its buffers in every place. */
+static inline void run_in_each_place(const test *t, enum kh_abi abi) {
+#ifdef __SANITIZE_ADDRESS__
+    run_placed(t, abi, ON_HEAP);
+#else
+    signal(SIGSEGV, on_fault);
+    run_placed(t, abi, AFTER_GUARD);
+    run_placed(t, abi, BEFORE_GUARD);
+#endif
+}
+
+/* Runs the tests in the layouts up to the last; a line for each test. */
+static inline int run_up_to(enum kh_abi last, const test *tests, size_t count) {
     int failed = 0;
     setvbuf(stdout, NULL, _IOLBF, 0);
     for (size_t i = 0; i < count; i++) {
         running.name = tests[i].name;
         running.failures = 0;
-#ifdef __SANITIZE_ADDRESS__
-        run_placed(&tests[i], ON_HEAP);
-#else
-        signal(SIGSEGV, on_fault);
-        run_placed(&tests[i], AFTER_GUARD);
-        run_placed(&tests[i], BEFORE_GUARD);
-#endif
+        for (int abi = KH_BITS64; abi <= (int)last; abi++)
+            run_in_each_place(&tests[i], (enum kh_abi)abi);
         printf("%s %s\n", running.failures == 0 ? "ok  " : "FAIL", tests[i].name);
         failed += running.failures != 0;
     }
     return failed != 0;
+}
+
+/* For tests that open 64-bit ports, or name the protocols of those that they open. */
+static inline int run_tests(const test *tests, size_t count) {
+    return run_up_to(KH_BITS64, tests, count);
+}
+
+/* For tests of which every word holds in either layout. */
+static inline int run_in_both_layouts(const test *tests, size_t count) {
+    return run_up_to(KH_BITS32, tests, count);
 }
 
 #endif

@@ -1,4 +1,7 @@
-/* Turns and completions: indices and overruns, whose turn it is, plans, tags and serials, results and responses. */
+/*
+ * Turns and completions: indices and overruns, whose turn it is, plans, tags and serials, results and responses, in
+ * both layouts; and ports of both on one backend.
+ */
 #include "test.h"
 
 /* A turn's kind, with its port checked. */
@@ -92,7 +95,7 @@ static void line_indices_wrap(host *h) {
     CHECK_EQ(words(h, TURNED)[KH_TURN_SERIAL], UINT32_MAX);
     CHECK_EQ(FINISH(h), KH_OK);
     CHECK_EQ(index_at(h, 0, KH_RSP_PROD), 0);
-    CHECK_EQ(get(slot_in(ring(h, 0), 31), 8), FIRST_ID + UINT32_MAX);
+    CHECK_EQ(get(slot_of(h, 0, 31), 8), FIRST_ID + UINT32_MAX);
     post(h, 0, transfer(KH_READ, 0, 0)); /* slot 0 */
     CHECK_EQ(SERVE(h, 0), KH_ANSWERED);
     CHECK_EQ(index_at(h, 0, KH_RSP_PROD), 1);
@@ -256,15 +259,19 @@ static void results_where_0_is_expected(host *h) {
     }
 }
 
+/* In both layouts a request's start is the first field that the response leaves. */
 static void response_bytes(host *h) {
     static const uint8_t due[16] = {0x88, 0x77, 0x66, 0x55, 0x44, 0x33, 0x22, 0x11, 0, 0, 0xFF, 0xFF, 0, 0, 0, 0};
+    static const uint64_t start = UINT64_C(0x99AABBCCDDEEFF00);
+    const layout *l = &layouts[h->abi];
     BEGIN(h, USUAL_NODES);
-    CHECK_EQ(JUDGE(h, transfer(KH_READ, 0, 0)), 25);
-    CHECK(memcmp(slot_in(ring(h, 0), 0), due, sizeof due) == 0);
-    CHECK_EQ(slot_in(ring(h, 0), 0)[16 + 8], 5); /* the request's first segment stays */
+    CHECK_EQ(JUDGE(h, transfer(KH_READ, 0, start)), 25);
+    CHECK(memcmp(slot_of(h, 0, 0), due, l->response) == 0);
+    CHECK_EQ(get(slot_of(h, 0, 0) + l->response, 8), start);
+    CHECK_EQ(slot_of(h, 0, 0)[l->segments], 5);
     BEGIN(h, USUAL_NODES);
     CHECK_EQ(JUDGE(h, transfer(KH_FLUSH, 0, 0)), 22);
-    CHECK_EQ(get(slot_in(ring(h, 0), 0) + 8, 8), 0xFFFE0003);
+    CHECK_EQ(get(slot_of(h, 0, 0) + 8, l->response - 8), 0xFFFE0003);
 }
 
 static void responses_go_by_our_own_index(host *h) {
@@ -286,6 +293,88 @@ static void notify_where_rsp_event_is_the_new_index(host *h) {
         CHECK_EQ(JUDGE(h, transfer(KH_READ, 1, 0)), 0);
         CHECK_EQ(words(h, COMPLETED)[KH_DONE_NOTIFY], event == 4);
     }
+}
+
+/* ---- both layouts on one backend */
+
+static enum kh_abi other_than(enum kh_abi abi) {
+    return abi == KH_BITS64 ? KH_BITS32 : KH_BITS64;
+}
+
+/* A port open with every feature in that layout, its protocol named. */
+static void open_in(host *h, uint32_t port, enum kh_abi abi) {
+    char nodes[64];
+    snprintf(nodes, sizeof nodes, "%s 8:%s", ALL_FEATURES, layouts[abi].protocol);
+    CHECK_EQ(OPEN_NODES(h, port, nodes), KH_OK);
+    CHECK_EQ(h->books[port].abi, abi);
+}
+
+/* A write of one sector, with a start and a frame of its own; then a discard; then what is refused. */
+static request nth_request(uint32_t n) {
+    request r = transfer(KH_WRITE, 1, 100 + n);
+    r.segments[0] = (segment){n % 16, 1, 1};
+    if (n % 3 == 1)
+        return discard(0, 200 + n, 1000 + n);
+    return n % 3 == 0 ? r : transfer(KH_WRITE, 12, 0);
+}
+
+static void check_nth_plan(const kh_plan *plan, uint32_t n) {
+    CHECK_EQ(plan->serial, n);
+    CHECK_EQ(plan->start, n % 3 == 0 ? 100 + n : 200 + n);
+    CHECK_EQ(plan->count, n % 3 == 0 ? 1 : 1000 + n);
+    CHECK_EQ(plan->extent_count, n % 3 == 0);
+    CHECK_EQ(plan->extents[0].frame, n % 3 == 0 ? n % 16 : 0);
+}
+
+/* Serves request n of a port, which was posted, and completes it if it starts. */
+static void serve_nth(host *h, uint32_t port, uint32_t n) {
+    uint64_t kind = SERVE(h, port);
+    CHECK_EQ(kind, n % 3 == 2 ? KH_ANSWERED : KH_STARTED);
+    if (kind == KH_STARTED) {
+        kh_plan plan = kh_read_plan(words(h, TURNED));
+        check_nth_plan(&plan, n);
+        CHECK_EQ(FINISH(h), KH_OK);
+    }
+    CHECK_EQ(get(slot_of(h, port, n), 8), FIRST_ID + n);
+}
+
+/* Every second port is of the other layout; all go through two wraps of their rings, and each stays as it is. */
+static void ports_of_both_layouts(host *h) {
+    for (uint32_t port = 0; port < KH_PORTS; port++)
+        open_in(h, port, port % 2 == 0 ? h->abi : other_than(h->abi));
+    for (uint32_t n = 0; n < 2 * KH_SLOTS + 1; n++) {
+        for (uint32_t port = 0; port < KH_PORTS; port++)
+            post(h, port, nth_request(n));
+        for (uint32_t port = 0; port < KH_PORTS; port++)
+            serve_nth(h, port, n);
+    }
+}
+
+/* The other layout from index 0 on, over whatever bytes the first opening left, and then the first again. */
+static void port_reopened_in_the_other_layout(host *h) {
+    enum kh_abi abi = h->abi;
+    for (int opening = 0; opening < 3; opening++) {
+        open_in(h, 0, abi);
+        set_index(h, 0, KH_REQ_PROD, 0);
+        CHECK_EQ(COMPLETE(h, 0, 0, 0, 8), KH_NOT_BUSY);
+        for (uint32_t n = 0; n < KH_SLOTS + 5; n++) {
+            post(h, 0, nth_request(n));
+            serve_nth(h, 0, n);
+        }
+        CHECK_EQ(SERVE(h, 0), KH_IDLE);
+        CHECK_EQ(index_at(h, 0, KH_REQ_EVENT), KH_SLOTS + 6);
+        CHECK_EQ(index_at(h, 0, KH_RSP_PROD), KH_SLOTS + 5);
+        CHECK_EQ(CLOSE(h, 0), KH_OK);
+        abi = other_than(abi);
+    }
+}
+
+/* A close forgets the layout too: memory is as if the port had never been open. */
+static void close_forgets_the_layout(host *h) {
+    open_in(h, 5, h->abi);
+    CHECK_EQ(CLOSE(h, 5), KH_OK);
+    for (int i = 0; i < KH_MEMORY_WORDS; i++)
+        CHECK_EQ(words(h, MEMORY)[i], 0);
 }
 
 static void two_backends_are_apart(host *h) {
@@ -315,7 +404,10 @@ int main(void) {
         TEST(response_bytes),
         TEST(responses_go_by_our_own_index),
         TEST(notify_where_rsp_event_is_the_new_index),
+        TEST(ports_of_both_layouts),
+        TEST(port_reopened_in_the_other_layout),
+        TEST(close_forgets_the_layout),
         TEST(two_backends_are_apart),
     };
-    return run_tests(tests, COUNT_OF(tests));
+    return run_in_both_layouts(tests, COUNT_OF(tests));
 }

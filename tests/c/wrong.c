@@ -28,20 +28,78 @@ static void peek(const char *fault_before, const char *fault_after, const void *
         (void)at[bytes];
 }
 
-/* Changes a byte of the last response's slot. */
-static void spoil_response(uint8_t *rings, uint64_t port, unsigned at) {
+/* ---- the layouts of the ports, by the last opening of each; the tests have one backend at a time */
+
+static enum kh_abi abis[KH_PORTS];
+
+static uint8_t *slot_of(uint8_t *page, size_t slot_bytes, uint32_t index) {
+    return page + KH_HEADER_BYTES + slot_bytes * (index % KH_SLOTS);
+}
+
+/* The slot of a port's last response. */
+static uint8_t *last_response(uint8_t *rings, uint64_t port) {
     uint8_t *page = rings + KH_RING_BYTES * port;
     uint32_t produced;
     memcpy(&produced, page + KH_RSP_PROD, sizeof produced);
-    page[KH_HEADER_BYTES + KH_SLOT_BYTES * ((produced - 1) % KH_SLOTS) + at] ^= 1;
+    return slot_of(page, kh_slot_bytes(abis[port]), produced - 1);
 }
 
+/* A response as a 64-bit guest has it, in the slot of a 32-bit one. */
+static void pad_response(uint8_t *rings, uint64_t port) {
+    if (abis[port] == KH_BITS32)
+        memset(last_response(rings, port) + KH_RESPONSE32_BYTES, 0, KH_RESPONSE_BYTES - KH_RESPONSE32_BYTES);
+}
+
+/* Copies the slots of each 32-bit port from where they are in the one page to where they are in the other. */
+static void move_slots(uint8_t *to, size_t to_bytes, uint8_t *from, size_t from_bytes) {
+    for (int port = 0; port < KH_PORTS; port++)
+        for (uint32_t i = 0; abis[port] == KH_BITS32 && i < KH_SLOTS; i++)
+            memcpy(slot_of(to + KH_RING_BYTES * port, to_bytes, i), slot_of(from + KH_RING_BYTES * port, from_bytes, i),
+                   KH_SLOT32_BYTES);
+}
+
+/* A turn that looks for the slots of 32-bit ports, and puts their responses, where those of 64-bit ports are. */
+static uint32_t turn_by_112(kh_memory *memory, uint8_t *rings, const uint8_t *grants, size_t grants_bytes,
+                            uint64_t *answer) {
+    static uint8_t moved[KH_RINGS_BYTES];
+    uint32_t number;
+    memcpy(moved, rings, sizeof moved);
+    move_slots(moved, KH_SLOT32_BYTES, rings, KH_SLOT_BYTES);
+    number = __real_kh_turn(memory, moved, sizeof moved, grants, grants_bytes, answer);
+    for (int port = 0; port < KH_PORTS; port++)
+        memcpy(rings + KH_RING_BYTES * port, moved + KH_RING_BYTES * port,
+               abis[port] == KH_BITS32 ? KH_HEADER_BYTES : KH_RING_BYTES);
+    move_slots(rings, KH_SLOT_BYTES, moved, KH_SLOT32_BYTES);
+    return number;
+}
+
+/* A sheet whose protocol is the one that the port was opened with before. */
+static const uint8_t *with_old_layout(uint32_t port, const uint8_t *sheet, size_t sheet_bytes) {
+    static uint8_t changed[256];
+    if (port >= KH_PORTS || sheet_bytes < 10 || sheet_bytes > sizeof changed)
+        return sheet;
+    memcpy(changed, sheet, sheet_bytes);
+    for (size_t at = 0; at + 10 <= sheet_bytes; at++)
+        if (memcmp(changed + at, "x86_", 4) == 0)
+            memcpy(changed + at, abis[port] == KH_BITS32 ? "x86_32" : "x86_64", 6);
+    return changed;
+}
+
+/* ---- the calls */
+
 uint32_t __wrap_kh_open(kh_memory *memory, uint32_t port, const uint8_t *sheet, size_t sheet_bytes) {
+    enum kh_abi abi = kh_read_abi(sheet, sheet_bytes);
     uint32_t number;
     peek("before_sheet", "after_sheet", sheet, sheet_bytes);
     peek("before_memory", "after_memory", memory, sizeof(kh_memory));
+    if (wrong("layout_kept"))
+        sheet = with_old_layout(port, sheet, sheet_bytes);
     number = __real_kh_open(memory, port, sheet, sheet_bytes);
+    if (number == KH_OK)
+        abis[port] = abi;
     if (wrong("open_13_for_14") && number == 14)
+        return 13;
+    if (wrong("no_32_bit_guests") && number == KH_OK && abi == KH_BITS32)
         return 13;
     if (wrong("refused_open_writes") && number != KH_OK)
         memory->words[KH_MEMORY_WORDS - 1] ^= 1;
@@ -59,7 +117,9 @@ static void spoil_turn(uint8_t *rings, uint64_t *answer) {
     if (wrong("idle_touches_closed_port") && answer[KH_TURN_KIND] == KH_IDLE)
         rings[3 * KH_RING_BYTES + KH_REQ_EVENT] ^= 1;
     if (wrong("padding_left") && answer[KH_TURN_KIND] == KH_ANSWERED)
-        spoil_response(rings, answer[KH_TURN_PORT], 12);
+        last_response(rings, answer[KH_TURN_PORT])[KH_RESPONSE32_BYTES] ^= 1;
+    if (wrong("answered_as_64_bit") && answer[KH_TURN_KIND] == KH_ANSWERED)
+        pad_response(rings, answer[KH_TURN_PORT]);
     if (wrong("never_notify"))
         answer[KH_TURN_NOTIFY] = 0;
     if (wrong("always_notify") && answer[KH_TURN_KIND] == KH_ANSWERED)
@@ -80,7 +140,10 @@ uint32_t __wrap_kh_turn(kh_memory *memory, uint8_t *rings, size_t rings_bytes, c
     peek("before_rings", "after_rings", rings, rings_bytes);
     peek("before_grants", "after_grants", grants, grants_bytes);
     peek("before_turned", "after_turned", answer, 8 * KH_TURN_WORDS);
-    number = __real_kh_turn(memory, rings, rings_bytes, grants, grants_bytes, answer);
+    if (wrong("slots_by_112") && rings_bytes == KH_RINGS_BYTES)
+        number = turn_by_112(memory, rings, grants, grants_bytes, answer);
+    else
+        number = __real_kh_turn(memory, rings, rings_bytes, grants, grants_bytes, answer);
     if (wrong("refused_turn_writes") && number != KH_OK)
         answer[KH_TURN_KIND] = 0;
     if (number == KH_OK)
@@ -100,6 +163,8 @@ uint32_t __wrap_kh_complete(kh_memory *memory, uint8_t *rings, size_t rings_byte
     if (wrong("refused_complete_writes") && number != KH_OK)
         answer[KH_DONE_PORT] = 0;
     if (wrong("rest_of_slot") && number == KH_OK)
-        spoil_response(rings, port, KH_RESPONSE_BYTES);
+        last_response(rings, port)[kh_response_bytes(abis[port])] ^= 1;
+    if (wrong("completed_as_64_bit") && number == KH_OK)
+        pad_response(rings, port);
     return number;
 }

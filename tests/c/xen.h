@@ -1,4 +1,7 @@
-/* Xen's public headers of the block interface, as they are, with the barriers that they leave to their user. */
+/*
+ * Xen's public headers of the block interface, as they are, with the barriers that they leave to their user. With
+ * AS_I386 the records are aligned as a compiler for i386 does it, whatever this one is for.
+ */
 #ifndef TEST_XEN_H
 #define TEST_XEN_H
 
@@ -11,7 +14,17 @@
 #define xen_rmb()                 __sync_synchronize()
 #define xen_wmb()                 __sync_synchronize()
 
+#include <xen/grant_table.h>
+#include <xen/io/ring.h>
+
+#ifdef AS_I386
+#pragma pack(push, 4)
+#endif
 #include <xen/io/blkif.h>
+#ifdef AS_I386
+#pragma pack(pop)
+#endif
+
 #include <xen/io/protocols.h>
 
 #endif

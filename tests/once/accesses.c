@@ -10,7 +10,7 @@ struct counts {
 
 static const struct backend *backend;
 static struct counts of_name, of_all;
-static const char *name;
+static struct scenario last;
 static unsigned names_at_fault, names;
 
 static void add(struct counts *sum, const struct counts *more) {
@@ -34,12 +34,13 @@ static struct counts count(const struct trace *trace) {
     return counts;
 }
 
-/* A line for all scenarios of one name. */
+/* A line for all scenarios of one name and layout. */
 static void end_name(void) {
-    if (!name)
+    if (!last.name)
         return;
-    printf("%-6s %-46s %4u calls, %5u loads of %6u bytes, %4u stores of %5u bytes\n", of_name.faults ? "FAULT" : "once",
-           name, of_name.calls, of_name.loads, of_name.loaded, of_name.stores, of_name.stored);
+    printf("%-6s %s %-46s %4u calls, %5u loads of %6u bytes, %4u stores of %5u bytes\n",
+           of_name.faults ? "FAULT" : "once", layouts[last.abi].name, last.name, of_name.calls, of_name.loads,
+           of_name.loaded, of_name.stores, of_name.stored);
     add(&of_all, &of_name);
     names++;
     names_at_fault += of_name.faults != 0;
@@ -51,12 +52,12 @@ static void check(const struct scenario *scenario) {
     struct outcome outcome;
     if (scenario->sample)
         end_name();
-    name = scenario->name;
+    last = *scenario;
     trap_begin(&trace, NULL);
     call_backend(backend, &scenario->call, rings, &outcome);
     trap_end();
     if (!is_expected(scenario, &outcome))
-        fail("%s: another outcome: %u, kind %u", scenario->name, outcome.refusal,
+        fail("%s: %s: another outcome: %u, kind %u", layouts[scenario->abi].name, scenario->name, outcome.refusal,
              (unsigned)outcome.answer[KH_TURN_KIND]);
     struct counts counts = count(&trace);
     counts.faults = judge(scenario, &trace);

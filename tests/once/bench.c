@@ -11,6 +11,11 @@
 #define RINGS_AT     0x100002000
 #define MAPPED_BYTES (RINGS_AT - MARKERS_AT + KH_RINGS_BYTES + PAGE_BYTES)
 
+const struct layout layouts[] = {
+    [KH_BITS64] = {"64-bit", "x86_64-abi", 112, 16, 8, 16, 24},
+    [KH_BITS32] = {"32-bit", "x86_32-abi", 108, 12, 4, 12, 20},
+};
+
 struct bench bench;
 uint8_t *const rings = (uint8_t *)RINGS_AT;
 volatile uint64_t *const markers = (volatile uint64_t *)MARKERS_AT;
@@ -62,10 +67,14 @@ void store64(uint8_t *to, uint64_t value) {
     memcpy(to, &value, sizeof value);
 }
 
+const struct layout *layout_of(unsigned port) {
+    return &layouts[bench.ports[port].abi];
+}
+
 unsigned header_at(unsigned port, unsigned field) {
     return PAGE_BYTES * port + field;
 }
 
 unsigned slot_at(unsigned port, uint32_t index) {
-    return PAGE_BYTES * port + FIRST_SLOT + SLOT_BYTES * (index % SLOTS);
+    return PAGE_BYTES * port + FIRST_SLOT + layout_of(port)->slot_bytes * (index % SLOTS);
 }

@@ -6,14 +6,24 @@
 
 #include <kernelharp.h>
 
-enum { PORTS = 8, SLOTS = 32, PAGE_BYTES = 4096, SLOT_BYTES = 112, RESPONSE_BYTES = 16, INDEX_BYTES = 4 };
+enum { PORTS = 8, SLOTS = 32, PAGE_BYTES = 4096, INDEX_BYTES = 4 };
 enum { REQ_PROD = 0, REQ_EVENT = 4, RSP_PROD = 8, RSP_EVENT = 12, FIRST_SLOT = 64 };
+
+/* How a guest lays out a slot: its bytes, a response's, and where a request has its fields. */
+struct layout {
+    const char *name, *protocol;
+    unsigned slot_bytes, response_bytes, id, start, segments;
+};
+
+enum { MOST_SLOT_BYTES = 112 };
+extern const struct layout layouts[]; /* by enum kh_abi */
 
 enum state { CLOSED, OPEN, BROKEN };
 
 /* What the turn's answers tell of a port: C and R (rule 4.2) among it. */
 struct book {
     enum state state;
+    enum kh_abi abi;
     uint32_t taken, answered;
 };
 
@@ -61,6 +71,8 @@ void call_backend(const struct backend *backend, const struct call *call, uint8_
 uint32_t load32(const uint8_t *from);
 void store32(uint8_t *to, uint32_t value);
 void store64(uint8_t *to, uint64_t value);
+
+const struct layout *layout_of(unsigned port);
 
 /* Places in the ring buffer. */
 unsigned header_at(unsigned port, unsigned field);

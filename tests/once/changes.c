@@ -35,12 +35,13 @@ static void replace_slot(unsigned port, changer *with) {
     static unsigned first;
     uint32_t index = bench.ports[port].taken;
     unsigned at = slot_at(port, index);
-    uint8_t bytes[SLOT_BYTES];
+    const struct layout *layout = layout_of(port);
+    uint8_t bytes[MOST_SLOT_BYTES];
     first = (first + 1) % STEP;
     for (unsigned i = first; i < request_count; i += STEP) {
-        memcpy(bytes, rings + at, sizeof bytes);
-        write_request(bytes, index + 1, &requests[i]);
-        struct change change = {"slot", at, sizeof bytes, false, bytes};
+        memcpy(bytes, rings + at, layout->slot_bytes);
+        write_request(bytes, layout, index + 1, &requests[i]);
+        struct change change = {"slot", at, layout->slot_bytes, false, bytes};
         with(&change);
     }
 }
@@ -59,7 +60,7 @@ void each_change(const struct scenario *scenario, changer *with) {
     move_others(port, with);
     if (scenario->expect.kind == STARTED || scenario->expect.kind == ANSWERED)
         replace_slot(port, with);
-    flip("slot flipped", slot_at(port, bench.ports[port].taken), SLOT_BYTES, with);
+    flip("slot flipped", slot_at(port, bench.ports[port].taken), layout_of(port)->slot_bytes, with);
     flip("page flipped", PAGE_BYTES * port, PAGE_BYTES, with);
     flip("all rings flipped", 0, KH_RINGS_BYTES, with);
 }

@@ -1,7 +1,10 @@
 /* Guest bytes changed just before each access of a call; just after one is just before the next, and after the last the
    call sees no change. What the call then does must be what it does on the old bytes, where it loads none of the new
    ones; on the new bytes, where it loads none of the old ones; and in between, what a fresh call does on the bytes as
-   they were loaded. A call that checks one value and uses another has no such bytes. */
+   they were loaded. A call that checks one value and uses another has no such bytes.
+
+   A moment is left out where the access before it does not touch the changed bytes: up to there the call is the same as
+   with the change one access earlier, and so is what follows. */
 #include <stdio.h>
 #include <string.h>
 
@@ -26,7 +29,8 @@ static struct {
 } before;
 
 static const struct change *change;
-static unsigned moments, moment;
+static struct trace undisturbed; /* the call's accesses where nothing changes */
+static unsigned moment;
 static struct result as_old, as_new;
 
 static void restore(void) {
@@ -43,12 +47,15 @@ static void meddle(unsigned number) {
         make_change();
 }
 
+static bool touches_change(const struct access *access) {
+    return access->at < change->at + change->size && change->at < access->at + access->size;
+}
+
 /* Whether the changed bytes were loaded on this side of the change. */
 static bool is_loaded(const struct trace *trace, bool after) {
     for (unsigned i = 0; i < trace->count; i++) {
         const struct access *access = &trace->list[i];
-        bool meets = access->at < change->at + change->size && change->at < access->at + access->size;
-        if (access->load && meets && (i >= moment) == after)
+        if (access->load && touches_change(access) && (i >= moment) == after)
             return true;
     }
     return false;
@@ -66,8 +73,8 @@ static void restore_as_loaded(const struct trace *trace) {
 
 static void fault(const char *what) {
     of_name.faults++;
-    fprintf(stderr, "%s: %s: %s changed just before access %u of %u\n", scenario->name, what, change->name, moment + 1,
-            moments);
+    fprintf(stderr, "%s: %s: %s: %s changed just before access %u of %u\n", layouts[scenario->abi].name, scenario->name,
+            what, change->name, moment + 1, undisturbed.count);
 }
 
 static void judge_between(const struct trace *trace, const struct result *result) {
@@ -105,15 +112,16 @@ static void try_change(const struct change *next) {
     change = next;
     make_change();
     traced_call(&archive, &scenario->call, NULL, &trace, &as_new);
-    for (moment = 0; moment < moments; moment++)
-        try_moment();
+    for (moment = 0; moment < undisturbed.count; moment++)
+        if (moment == 0 || touches_change(&undisturbed.list[moment - 1]))
+            try_moment();
     restore();
 }
 
 static void end_scenario(void) {
-    printf("%-6s %-46s %5u changes: %5u as on the old bytes, %5u as on the new, %5u as loaded\n",
-           of_name.faults ? "FAULT" : "whole", scenario->name, of_name.old + of_name.new + of_name.between, of_name.old,
-           of_name.new, of_name.between);
+    printf("%-6s %s %-46s %5u changes: %5u as on the old bytes, %5u as on the new, %5u as loaded\n",
+           of_name.faults ? "FAULT" : "whole", layouts[scenario->abi].name, scenario->name,
+           of_name.old + of_name.new + of_name.between, of_name.old, of_name.new, of_name.between);
     of_all.old += of_name.old;
     of_all.new += of_name.new;
     of_all.between += of_name.between;
@@ -128,12 +136,11 @@ static void try_scenario(const struct scenario *next) {
     scenario = next;
     before.memory = bench.memory;
     memcpy(before.rings, rings, sizeof before.rings);
-    traced_call(backend, &scenario->call, NULL, &trace, &as_old);
-    moments = trace.count;
+    traced_call(backend, &scenario->call, NULL, &undisturbed, &as_old);
     restore();
     traced_call(&archive, &scenario->call, NULL, &trace, &as_old);
     if (!is_expected(scenario, &as_old.outcome))
-        fail("%s: another outcome", scenario->name);
+        fail("%s: %s: another outcome", layouts[scenario->abi].name, scenario->name);
     restore();
     each_change(scenario, try_change);
     end_scenario();

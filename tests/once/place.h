@@ -1,5 +1,5 @@
 /* Where a call finds the backend: which ports are open, whom the next turn serves, where the pointer stands, and how
- * far the indices are. */
+ * far the indices are. The other ports are of both layouts in turns. */
 #ifndef ONCE_PLACE_H
 #define ONCE_PLACE_H
 
@@ -13,8 +13,11 @@ struct place {
     enum others others;
 };
 
-/* Leaves the port with nothing to serve, its next request in the slot named. */
-void prepare(const struct place *place, const struct disk *disk);
+/* Leaves the port, which is of that layout, with nothing to serve, its next request in the slot named. */
+void prepare(const struct place *place, enum kh_abi abi, const struct disk *disk);
+
+/* The layout of a port that is none of the scenario's own. */
+enum kh_abi other_abi(unsigned port);
 
 /* An untraced turn over a request of that port. The answer is the tag of a started one. */
 uint32_t serve(unsigned port, const struct request *request);

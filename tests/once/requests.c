@@ -74,9 +74,9 @@ void grant_frames(void) {
     }
 }
 
-static size_t write_sheet(uint8_t *sheet, const struct disk *disk) {
-    const char *bodies[] = {disk->mode,   disk->barrier,     disk->flush,  disk->discard,
-                            disk->secure, disk->sector_size, disk->sectors};
+static size_t write_sheet(uint8_t *sheet, const struct layout *layout, const struct disk *disk) {
+    const char *bodies[] = {disk->mode,   disk->barrier,     disk->flush,   disk->discard,
+                            disk->secure, disk->sector_size, disk->sectors, layout->protocol};
     enum { NODES = sizeof bodies / sizeof *bodies };
     size_t end = 1 + 4 * NODES;
     sheet[0] = NODES;
@@ -89,30 +89,30 @@ static size_t write_sheet(uint8_t *sheet, const struct disk *disk) {
     return end;
 }
 
-void open_port(unsigned port, const struct disk *disk) {
+void open_port(unsigned port, enum kh_abi abi, const struct disk *disk) {
     uint8_t sheet[128];
-    size_t bytes = write_sheet(sheet, disk ? disk : &full);
+    size_t bytes = write_sheet(sheet, &layouts[abi], disk ? disk : &full);
     uint32_t refusal = kh_open(&bench.memory, port, sheet, bytes);
     if (refusal != KH_OK)
         fail("open of port %u refused: %u", port, refusal);
-    bench.ports[port] = (struct book){.state = OPEN};
+    bench.ports[port] = (struct book){.state = OPEN, .abi = abi};
     store32(rings + header_at(port, REQ_PROD), 0);
 }
 
 /* What no field covers keeps the bytes that were there, which are rubbish. */
-void write_request(uint8_t *slot, uint32_t index, const struct request *request) {
+void write_request(uint8_t *slot, const struct layout *layout, uint32_t index, const struct request *request) {
     slot[0] = request->operation;
     slot[1] = request->n;
-    store64(slot + 8, 0x1122334455667700 + index);
-    store64(slot + 16, request->start);
+    store64(slot + layout->id, 0x1122334455667700 + index);
+    store64(slot + layout->start, request->start);
     if (request->operation == DISCARD) {
-        store64(slot + 24, request->sectors);
+        store64(slot + layout->segments, request->sectors);
         return;
     }
     for (unsigned i = 0; i < request->n && i < 11; i++) {
         struct segment whole = {10 + i, 0, WHOLE - 1};
         struct segment segment = i + 1 == request->n ? request->last : whole;
-        uint8_t *at = slot + 24 + 8 * i;
+        uint8_t *at = slot + layout->segments + 8 * i;
         store32(at, segment.frame);
         at[4] = segment.first;
         at[5] = segment.last;
@@ -120,6 +120,6 @@ void write_request(uint8_t *slot, uint32_t index, const struct request *request)
 }
 
 void put_request(unsigned port, uint32_t index, const struct request *request) {
-    write_request(rings + slot_at(port, index), index, request);
+    write_request(rings + slot_at(port, index), layout_of(port), index, request);
     store32(rings + header_at(port, REQ_PROD), index + 1);
 }

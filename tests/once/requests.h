@@ -35,9 +35,9 @@ extern const unsigned request_count;
 extern const struct request dummy, held;
 
 void grant_frames(void);
-void open_port(unsigned port, const struct disk *disk);
+void open_port(unsigned port, enum kh_abi abi, const struct disk *disk);
 void put_request(unsigned port, uint32_t index, const struct request *request);
-/* The 112 bytes of a request, its id made from the index. */
-void write_request(uint8_t *slot, uint32_t index, const struct request *request);
+/* A request's bytes in a slot of that layout, its id made from the index. */
+void write_request(uint8_t *slot, const struct layout *layout, uint32_t index, const struct request *request);
 
 #endif

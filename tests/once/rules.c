@@ -11,9 +11,13 @@ static void name_bytes(bool *marks, unsigned at, unsigned bytes) {
     memset(marks + at, true, bytes);
 }
 
+static void name_slot(struct named *named, unsigned port) {
+    name_bytes(named->load, slot_at(port, bench.ports[port].taken), layout_of(port)->slot_bytes);
+}
+
 static void name_response(struct named *named, unsigned port) {
     name_bytes(named->load, header_at(port, RSP_EVENT), INDEX_BYTES);
-    name_bytes(named->store, slot_at(port, bench.ports[port].answered), RESPONSE_BYTES);
+    name_bytes(named->store, slot_at(port, bench.ports[port].answered), layout_of(port)->response_bytes);
     name_bytes(named->store, header_at(port, RSP_PROD), INDEX_BYTES);
 }
 
@@ -44,7 +48,7 @@ static void name_all(struct named *named, const struct expect *expect) {
     if (expect->kind == IDLE)
         name_armed(named);
     if (expect->kind == STARTED || expect->kind == ANSWERED)
-        name_bytes(named->load, slot_at(expect->port, bench.ports[expect->port].taken), SLOT_BYTES);
+        name_slot(named, expect->port);
     if (expect->kind == ANSWERED || expect->kind == COMPLETED)
         name_response(named, expect->port);
 }
@@ -52,20 +56,20 @@ static void name_all(struct named *named, const struct expect *expect) {
 const char *place_name(unsigned at) {
     static const char *const header[] = {"req_prod", "req_event", "rsp_prod", "rsp_event"};
     static char name[64];
-    unsigned port = at / PAGE_BYTES, in_page = at % PAGE_BYTES;
+    unsigned port = at / PAGE_BYTES, in_page = at % PAGE_BYTES, slot_bytes = layout_of(port)->slot_bytes;
     if (in_page < 16)
         snprintf(name, sizeof name, "port %u, %s, byte %u", port, header[in_page / 4], in_page % 4);
-    else if (in_page >= FIRST_SLOT && in_page < FIRST_SLOT + SLOTS * SLOT_BYTES)
-        snprintf(name, sizeof name, "port %u, slot %u, byte %u", port, (in_page - FIRST_SLOT) / SLOT_BYTES,
-                 (in_page - FIRST_SLOT) % SLOT_BYTES);
+    else if (in_page >= FIRST_SLOT && in_page < FIRST_SLOT + SLOTS * slot_bytes)
+        snprintf(name, sizeof name, "port %u, slot %u, byte %u", port, (in_page - FIRST_SLOT) / slot_bytes,
+                 (in_page - FIRST_SLOT) % slot_bytes);
     else
         snprintf(name, sizeof name, "port %u, page byte %u", port, in_page);
     return name;
 }
 
 static unsigned fault(const struct scenario *scenario, const struct access *access, unsigned at, const char *what) {
-    fprintf(stderr, "%s: %s: %s, by the instruction at %#lx (%u bytes)\n", scenario->name, what, place_name(at),
-            (unsigned long)access->instruction, access->size);
+    fprintf(stderr, "%s: %s: %s: %s, by the instruction at %#lx (%u bytes)\n", layouts[scenario->abi].name,
+            scenario->name, what, place_name(at), (unsigned long)access->instruction, access->size);
     return 1;
 }
 

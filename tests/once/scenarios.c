@@ -7,6 +7,7 @@
 static visitor *visit_next;
 static const char *last_name;
 static bool samples_only;
+static enum kh_abi abi; /* the layout that is looked at now */
 
 /* Asked before a call is made ready, which costs more than the call. */
 static bool is_wanted(const char *name) {
@@ -16,7 +17,8 @@ static bool is_wanted(const char *name) {
 static void hand_over(const char *name, const struct call *call, const struct expect *expect) {
     if (!is_wanted(name))
         return;
-    struct scenario scenario = {.name = name, .sample = name != last_name, .call = *call, .expect = *expect};
+    struct scenario scenario = {
+        .name = name, .abi = abi, .sample = name != last_name, .call = *call, .expect = *expect};
     last_name = name;
     visit_next(&scenario);
 }
@@ -35,7 +37,7 @@ static void turn_on(const char *name, const struct place *place, const struct re
                             .notify = notify};
     if (!is_wanted(name))
         return;
-    prepare(place, request->disk);
+    prepare(place, abi, request->disk);
     uint32_t taken = bench.ports[place->port].taken;
     put_request(place->port, taken, request);
     if (many)
@@ -59,7 +61,7 @@ static void overrun_on(const char *name, const struct place *place, uint32_t dis
     struct expect expect = {.kind = OVERRUN, .port = place->port};
     if (!is_wanted(name))
         return;
-    prepare(place, NULL);
+    prepare(place, abi, NULL);
     store32(rings + header_at(place->port, REQ_PROD), bench.ports[place->port].taken + distance);
     hand_over(name, &turn, &expect);
 }
@@ -95,7 +97,7 @@ static void idle_with(const char *name, unsigned open_ports) {
     for (unsigned pointer = 0; pointer < PORTS && is_wanted(name); pointer++) {
         reset();
         for (unsigned k = 0; k < open_ports; k++)
-            open_port((3 * k + pointer) % PORTS, NULL);
+            open_port((3 * k + pointer) % PORTS, k == 0 ? abi : other_abi(k), NULL);
         set_pointer(pointer);
         hand_over(name, &turn, &idle);
     }
@@ -109,7 +111,7 @@ static void idle(void) {
     static const struct expect expect = {.kind = IDLE};
     for (unsigned open_ports = 0; open_ports <= PORTS; open_ports++)
         idle_with(names[open_ports], open_ports);
-    prepare(&crowded, NULL);
+    prepare(&crowded, abi, NULL);
     hand_over("idle: broken ports, requests in flight", &turn, &expect);
 }
 
@@ -121,7 +123,7 @@ static void turns_refused(void) {
         {KH_RINGS_BYTES, 0},  {KH_RINGS_BYTES, KH_GRANTS_BYTES - 1}, {KH_RINGS_BYTES, SIZE_MAX}};
     for (unsigned i = 0; i < sizeof wrong / sizeof *wrong; i++) {
         struct call call = {.rings_bytes = wrong[i][0], .grants_bytes = wrong[i][1]};
-        prepare(&place, NULL);
+        prepare(&place, abi, NULL);
         put_request(0, bench.ports[0].taken, &held);
         hand_over("turn refused 1", &call, &refused);
     }
@@ -131,7 +133,7 @@ static void turns_refused(void) {
 
 /* Starts a request, and gives the call that completes it. */
 static struct call started(const struct place *place, const struct request *request) {
-    prepare(place, request->disk);
+    prepare(place, abi, request->disk);
     uint32_t serial = bench.ports[place->port].taken;
     uint32_t tag = serve(place->port, request);
     return (struct call){.completes = true,
@@ -204,12 +206,9 @@ static void completions_refused(void) {
     refuse_completion("completion refused 4", 4, other);
 }
 
-void each_scenario(visitor *visit, bool samples) {
-    visit_next = visit;
-    samples_only = samples;
+static void each_in_layout(void) {
     last_name = NULL;
     fill_rings();
-    grant_frames();
     requests_of_each_kind();
     every_pointer_and_port("started: every pointer, port, slots 0 and 31", STARTED);
     every_pointer_and_port("answered: every pointer, port, slots 0 and 31", ANSWERED);
@@ -219,4 +218,12 @@ void each_scenario(visitor *visit, bool samples) {
     completions();
     turns_refused();
     completions_refused();
+}
+
+void each_scenario(visitor *visit, bool samples) {
+    visit_next = visit;
+    samples_only = samples;
+    grant_frames();
+    for (abi = KH_BITS64; abi <= KH_BITS32; abi++)
+        each_in_layout();
 }

@@ -11,9 +11,10 @@ struct expect {
     bool notify;
 };
 
-/* Scenarios of one name come one after the other; the first is the sample of its name. */
+/* Scenarios of one name and layout come one after the other; the first is the sample of them. */
 struct scenario {
     const char *name;
+    enum kh_abi abi; /* of the port that is served or completed on */
     bool sample;
     struct call call;
     struct expect expect;
@@ -21,7 +22,7 @@ struct scenario {
 
 typedef void visitor(const struct scenario *scenario);
 
-/* All of them, or the samples alone. */
+/* All of them, or the samples alone; in the one layout, then in the other. */
 void each_scenario(visitor *visit, bool samples);
 
 #endif

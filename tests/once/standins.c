@@ -1,5 +1,6 @@
 #include "standins.h"
 
+#include <emmintrin.h>
 #include <string.h>
 
 /* One fault each. The first has none, and must pass. */
@@ -9,13 +10,16 @@ enum fault {
     REQ_PROD_BY_BYTES,
     LOOKS_FURTHER,
     SLOT_OVERLAP,
+    TAIL_OVERLAP,
     SLOT_TOO_FAR,
+    SLOT_OF_112,
     SLOT_BY_LIBRARY,
     SECOND_LOOK,
     RSP_EVENT_TWICE,
     RSP_EVENT_ALWAYS,
     RSP_PROD_READ,
     BYTE_TOO_MANY,
+    RESPONSE_OF_16,
     RSP_PROD_STORED_TWICE,
     ARMED_ON_SERVICE,
 };
@@ -26,13 +30,16 @@ static const char *const names[] = {
     [REQ_PROD_BY_BYTES] = "req-prod-by-bytes",
     [LOOKS_FURTHER] = "looks-further",
     [SLOT_OVERLAP] = "slot-overlap",
+    [TAIL_OVERLAP] = "tail-overlap",
     [SLOT_TOO_FAR] = "slot-too-far",
+    [SLOT_OF_112] = "slot-of-112",
     [SLOT_BY_LIBRARY] = "slot-by-library",
     [SECOND_LOOK] = "second-look",
     [RSP_EVENT_TWICE] = "rsp-event-twice",
     [RSP_EVENT_ALWAYS] = "rsp-event-always",
     [RSP_PROD_READ] = "rsp-prod-read",
     [BYTE_TOO_MANY] = "byte-too-many",
+    [RESPONSE_OF_16] = "response-of-16",
     [RSP_PROD_STORED_TWICE] = "rsp-prod-stored-twice",
     [ARMED_ON_SERVICE] = "armed-on-service",
 };
@@ -49,6 +56,19 @@ static void take_byte(unsigned at) {
 
 static void take32(unsigned at) {
     store32(copy + at, *(volatile uint32_t *)(live + at));
+}
+
+static void take_words(unsigned at, unsigned bytes) {
+    for (unsigned i = 0; i < bytes; i += 4)
+        take32(at + i);
+}
+
+/* By loads of 16 bytes; what is left over by one more, which ends with the last byte and so meets the one before. */
+static void take_by_16(unsigned at, unsigned bytes) {
+    for (unsigned i = 0; i < bytes; i += 16) {
+        unsigned from = at + (i + 16 <= bytes ? i : bytes - 16);
+        _mm_storeu_si128((__m128i *)(copy + from), _mm_loadu_si128((const __m128i *)(live + from)));
+    }
 }
 
 static void give_byte(unsigned at) {
@@ -86,15 +106,17 @@ static unsigned look(void) {
 
 static void take_slot(unsigned port) {
     static void *(*volatile library_copy)(void *, const void *, size_t) = memcpy;
-    unsigned at = slot_at(port, bench.ports[port].taken);
+    unsigned at = slot_at(port, bench.ports[port].taken), bytes = layout_of(port)->slot_bytes;
     if (fault == SLOT_BY_LIBRARY)
-        library_copy(copy + at, live + at, SLOT_BYTES);
-    for (unsigned i = 0; i < SLOT_BYTES; i += 4)
-        take32(at + i);
+        library_copy(copy + at, live + at, bytes);
+    if (fault == TAIL_OVERLAP)
+        take_by_16(at, bytes);
+    else
+        take_words(at, fault == SLOT_OF_112 ? KH_SLOT_BYTES : bytes);
     if (fault == SLOT_OVERLAP)
         take32(at + 26);
     if (fault == SLOT_TOO_FAR)
-        take_byte(at + SLOT_BYTES);
+        take_byte(at + bytes);
     if (fault == LOOKS_FURTHER)
         take32(header_at((port + 1) % PORTS, REQ_PROD));
 }
@@ -114,11 +136,11 @@ static void take_rsp_event(unsigned port) {
 }
 
 static void give_response(unsigned port) {
-    unsigned at = slot_at(port, bench.ports[port].answered);
-    for (unsigned i = 0; i < RESPONSE_BYTES; i += 4)
+    unsigned at = slot_at(port, bench.ports[port].answered), bytes = layout_of(port)->response_bytes;
+    for (unsigned i = 0; i < (fault == RESPONSE_OF_16 ? KH_RESPONSE_BYTES : bytes); i += 4)
         give32(at + i);
     if (fault == BYTE_TOO_MANY)
-        give_byte(at + RESPONSE_BYTES);
+        give_byte(at + bytes);
     give32(header_at(port, RSP_PROD));
     if (fault == RSP_PROD_STORED_TWICE)
         give32(header_at(port, RSP_PROD));
@@ -126,7 +148,7 @@ static void give_response(unsigned port) {
 
 /* The old worker's: judged by one look at the slot, done by another. */
 static void look_again(unsigned port, uint64_t *answer) {
-    unsigned at = slot_at(port, bench.ports[port].taken) + 24;
+    unsigned at = slot_at(port, bench.ports[port].taken) + layout_of(port)->segments;
     for (unsigned i = 0; i < answer[KH_TURN_EXTENT_COUNT]; i++) {
         take32(at + 8 * i);
         answer[KH_TURN_EXTENTS + KH_EXTENT_WORDS * i + KH_EXTENT_FRAME] = load32(copy + at + 8 * i);
