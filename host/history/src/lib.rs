@@ -16,8 +16,8 @@ pub use event::Event;
 
 use books::Books;
 use page::{
-    kind, page, turn, u32_at, DONE_PORT, DONE_WORDS, GRANTS_BYTES, RING_BYTES, PORTS, REQ_EVENT,
-    REQ_PROD, RINGS_BYTES, SLOTS, TURN_WORDS,
+    kind, page, turn, u32_at, DONE_PORT, DONE_WORDS, GRANTS_BYTES, PORTS, REQ_EVENT, REQ_PROD,
+    RINGS_BYTES, RING_BYTES, SLOTS, TURN_WORDS,
 };
 use refusal::{IN_FLIGHT, IS_CLOSED, NONE, NOT_BUSY, NOT_CLOSED, NO_PORT, WRONG_LENGTH};
 use wait::Wait;

@@ -149,8 +149,9 @@ mod tests {
     #[test]
     fn layouts() {
         let with_protocol = |text: &str| {
-            let head = [4, 1, 0, 1, 0, 6, 0, 3, 0, 7, 0, 1, 0, 8, 0, text.len() as u8, 0];
-            [&head[..], b"w5129", text.as_bytes()].concat()
+            let head = b"\x04\x01\0\x01\0\x06\0\x03\0\x07\0\x01\0\x08\0";
+            let length = (text.len() as u16).to_le_bytes();
+            [&head[..], &length, b"w5129", text.as_bytes()].concat()
         };
         for (text, due) in [
             ("x86_64-abi", Layout::Bits64),
