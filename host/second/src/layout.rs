@@ -1,5 +1,4 @@
-//! Sizes and places (sections 1 and 2), those of a record by its layout, and numbers in bytes (rule
-//! 2.1).
+//! Sizes and places (sections 1 and 2), a record's by its layout, and numbers in bytes (rule 2.1).
 
 /// Rule 1.1.
 pub const PORTS: usize = 8;
