@@ -7,7 +7,7 @@ mod turns;
 
 use self::classes::expected_classes;
 use self::sheets::{opened_class, sheet_faults};
-use crate::{Buffer, Write};
+use crate::{Buffer, Write, ABIS};
 use history::{Event, History, State};
 use kernelharp::layout::{
     page, read_u32, Abi, HEADER_BYTES, PORTS, REQ_EVENT, REQ_PROD, RING_BYTES, RSP_PROD, SLOTS,
@@ -143,6 +143,9 @@ impl Census {
     /// Counts what a guest writes at a byte behind the header.
     fn note_slot_write(&mut self, history: &History, port: usize, page: &[u8], at: usize) {
         let abi = self.books[port].abi;
+        let begins = |abi: Abi| (at - HEADER_BYTES) % abi.slot_bytes() == 0;
+        let astray = !begins(abi) && ABIS.into_iter().any(begins);
+        self.tick_of_if(abi, astray, "guest wrote at a slot of the other layout");
         let slot = ((at - HEADER_BYTES) / abi.slot_bytes()) as u32;
         if slot >= SLOTS as u32 {
             return self.tick_of(abi, "guest wrote behind the last slot");

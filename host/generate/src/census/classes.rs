@@ -122,6 +122,7 @@ const PORT_CLASSES: &[&str] = &[
     "completed, status -0",
     "completed, status -1",
     "completed, status -2",
+    "guest wrote at a slot of the other layout",
     "guest wrote behind the last slot",
     "guest wrote over a slot in flight",
     "guest wrote over a waiting request",
