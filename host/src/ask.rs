@@ -1,6 +1,6 @@
 //! Requests of the tests.
 
-use kernelharp::layout::SLOT_BYTES;
+use kernelharp::layout::Abi;
 
 /// A request to be put into a slot.
 #[derive(Clone)]
@@ -45,18 +45,19 @@ impl Ask {
         Ask::of(0, 1, 2000, 0, 7)
     }
 
-    /// The request as it lies in its slot.
-    pub fn bytes(&self) -> [u8; SLOT_BYTES] {
-        // Bytes without a meaning are not zero.
-        let mut slot = [0xEE; SLOT_BYTES];
+    /// The request as it lies in a slot of a layout.
+    pub fn bytes(&self, abi: Abi) -> Vec<u8> {
+        // Bytes without a meaning, the handle's among them, are not zero.
+        let mut slot = vec![0xEE; abi.slot_bytes()];
         slot[0] = self.operation;
         slot[1] = self.count_or_flag;
-        slot[8..16].copy_from_slice(&self.id.to_le_bytes());
-        slot[16..24].copy_from_slice(&self.start.to_le_bytes());
+        slot[abi.id_at()..][..8].copy_from_slice(&self.id.to_le_bytes());
+        slot[abi.start_at()..][..8].copy_from_slice(&self.start.to_le_bytes());
+        let body = &mut slot[abi.segments_at()..];
         if self.operation == 5 {
-            slot[24..32].copy_from_slice(&self.discard_count.to_le_bytes());
+            body[..8].copy_from_slice(&self.discard_count.to_le_bytes());
         }
-        for (place, (frame, first, last)) in slot[24..].chunks_exact_mut(8).zip(&self.segments) {
+        for (place, (frame, first, last)) in body.chunks_exact_mut(8).zip(&self.segments) {
             place[0..4].copy_from_slice(&frame.to_le_bytes());
             place[4] = *first;
             place[5] = *last;

@@ -2,8 +2,7 @@
 
 use crate::{Ask, Both};
 use kernelharp::layout::{
-    page, slot_at, write_u32, GRANTS_BYTES, RING_BYTES, PORTS, PORT_GRANTS, REQ_PROD, RINGS_BYTES,
-    SLOT_BYTES,
+    page, write_u32, GRANTS_BYTES, PORTS, PORT_GRANTS, REQ_PROD, RINGS_BYTES, RING_BYTES,
 };
 use kernelharp::Completion;
 use second::{Done, Plan, Reason, Refusal, Turned};
@@ -65,10 +64,22 @@ impl Bench {
         self.set_u32(port, REQ_PROD, value);
     }
 
+    /// A slot of a port's page, in the layout of the port.
+    pub fn slot(&self, port: usize, index: u32) -> &[u8] {
+        let abi = self.backend.abi(port);
+        &self.page(port)[abi.slot_at(index)..][..abi.slot_bytes()]
+    }
+
+    /// Puts a request into a slot of a port's page, in the layout of the port.
+    pub fn put(&mut self, port: usize, index: u32, ask: &Ask) {
+        let abi = self.backend.abi(port);
+        let bytes = ask.bytes(abi);
+        self.rings[RING_BYTES * port + abi.slot_at(index)..][..bytes.len()].copy_from_slice(&bytes);
+    }
+
     /// Puts a request where the guest's next one belongs.
     pub fn post(&mut self, port: usize, ask: &Ask) {
-        let at = RING_BYTES * port + slot_at(self.produced[port]);
-        self.rings[at..at + SLOT_BYTES].copy_from_slice(&ask.bytes());
+        self.put(port, self.produced[port], ask);
         self.set_req_prod(port, self.produced[port].wrapping_add(1));
     }
 
@@ -82,6 +93,11 @@ impl Bench {
     /// Posts a request on port 0 and serves it.
     pub fn serve(&mut self, ask: &Ask) -> Result<Plan, Reason> {
         self.post(0, ask);
+        self.serve_next()
+    }
+
+    /// Serves a request that was posted.
+    pub fn serve_next(&mut self) -> Result<Plan, Reason> {
         match self.turn() {
             Turned::Started(plan) => Ok(plan),
             Turned::Answered { reason, status, .. } => {

@@ -2,6 +2,7 @@
 //! alike, so a test written for the one holds for the other.
 
 use generate::{done_words, for_second, turn_words, UNTOUCHED};
+use kernelharp::layout::{Abi, PORTS};
 use kernelharp::words::{DONE_WORDS, TURN_WORDS};
 use kernelharp::{Completion, Memory, Turn};
 use second::{Done, Plan, Refusal, Turned};
@@ -11,6 +12,8 @@ use second::{Done, Plan, Refusal, Turned};
 pub struct Both {
     second: second::Backend,
     archive: Memory,
+    /// The layout of each port's last opening.
+    abis: [Abi; PORTS],
 }
 
 /// The code and words due from the archive where the second program gave this answer.
@@ -36,7 +39,13 @@ impl Both {
         Both {
             second: second::Backend::new(),
             archive: Memory::new().expect("an archive of this package"),
+            abis: [Abi::default(); PORTS],
         }
+    }
+
+    /// The layout that a port was opened with last.
+    pub fn abi(&self, port: usize) -> Abi {
+        self.abis[port]
     }
 
     /// Opens a port.
@@ -44,6 +53,9 @@ impl Both {
         let answer = self.second.open(port, sheet);
         let code = self.archive.open(port, sheet);
         assert_eq!((code, []), due(&answer, |()| []));
+        if answer.is_ok() {
+            self.abis[port as usize] = Abi::of_sheet(sheet);
+        }
         answer
     }
 

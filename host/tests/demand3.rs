@@ -2,10 +2,10 @@
 
 use history::{Event, History};
 use kernelharp::layout::{
-    slot_at, write_u32, GRANTS_BYTES, RING_BYTES, REQ_EVENT, REQ_PROD, RINGS_BYTES,
+    write_u32, Abi, GRANTS_BYTES, REQ_EVENT, REQ_PROD, RINGS_BYTES, RING_BYTES,
 };
 use kernelharp::words::{done, kind, turn, DONE_WORDS, TURN_WORDS};
-use tests::usual_sheet;
+use tests::{usual_sheet, usual_sheet_of, ABIS};
 
 /// A history with the first `ports` ports open, and the rings lent to it. All requests are
 /// zeros: the pair (0, 0), which zeros in a response answer.
@@ -16,6 +16,9 @@ struct Story {
 }
 
 type Checked = Result<(), String>;
+
+/// Id and operation.
+type Pair = (u64, u8);
 
 impl Story {
     fn new(ports: u32) -> Story {
@@ -30,9 +33,20 @@ impl Story {
         story
     }
 
-    fn open(&mut self, port: u32, code: u32) -> Checked {
-        let sheet = &usual_sheet();
+    /// A history with port 0 open in a layout, and `req_prod` requests on its page.
+    fn of(abi: Abi, req_prod: u32) -> Story {
+        let mut story = Story::new(0);
+        story.open_sheet(0, &usual_sheet_of(abi), 0).unwrap();
+        story.publish_up_to(0, req_prod);
+        story
+    }
+
+    fn open_sheet(&mut self, port: u32, sheet: &[u8], code: u32) -> Checked {
         self.history.check(&Event::Open { port, sheet, code })
+    }
+
+    fn open(&mut self, port: u32, code: u32) -> Checked {
+        self.open_sheet(port, &usual_sheet(), code)
     }
 
     fn close(&mut self, port: u32, code: u32) -> Checked {
@@ -46,6 +60,21 @@ impl Story {
 
     fn publish_up_to(&mut self, port: usize, value: u32) {
         self.set(port, REQ_PROD, value);
+    }
+
+    /// Port 0's guest writes a request's pair.
+    fn ask(&mut self, abi: Abi, index: u32, (id, operation): Pair) {
+        let at = abi.slot_at(index);
+        self.rings[at] = operation;
+        self.rings[at + abi.id_at()..][..8].copy_from_slice(&id.to_le_bytes());
+        self.left.clone_from(&self.rings);
+    }
+
+    /// The next call leaves a response's pair on port 0's page.
+    fn answer(&mut self, abi: Abi, index: u32, (id, operation): Pair) {
+        let at = abi.slot_at(index);
+        self.left[at..][..8].copy_from_slice(&id.to_le_bytes());
+        self.left[at + 8] = operation;
     }
 
     /// A turn whose answer has these words, and zeros.
@@ -223,29 +252,93 @@ fn starts_name_lowest_tag_and_serial() {
 
 #[test]
 fn an_answer_with_another_pair() {
-    let mut story = Story::new(1);
-    story.publish_up_to(0, 9);
-    story.left[slot_at(0) + 8] = 1;
-    faulty(story.answered(0), "pairs taken");
-    let mut story = Story::new(1);
-    story.publish_up_to(0, 9);
-    story.started(0, 0, 0).unwrap();
-    story.left[slot_at(0)] = 1;
-    faulty(story.complete(0, 0, 0, 0), "pairs taken");
+    for abi in ABIS {
+        let mut story = Story::of(abi, 9);
+        story.answer(abi, 0, (0, 1));
+        faulty(story.answered(0), "pairs taken");
+        let mut story = Story::of(abi, 9);
+        story.started(0, 0, 0).unwrap();
+        story.answer(abi, 0, (1, 0));
+        faulty(story.complete(0, 0, 0, 0), "pairs taken");
+    }
 }
 
 #[test]
 fn a_pair_is_read_when_taken() {
-    let mut story = Story::new(1);
-    story.set(0, slot_at(0) + 8, 77);
-    story.publish_up_to(0, 1);
-    story.started(0, 0, 0).unwrap();
-    // What the guest writes later changes nothing: 77 is due.
-    story.set(0, slot_at(0) + 8, 78);
-    story.set(0, slot_at(0), 77);
-    story.rings[slot_at(0) + 8] = 0;
-    story.left[slot_at(0) + 8] = 0;
-    story.complete(0, 0, 0, 0).unwrap();
+    for abi in ABIS {
+        let mut story = Story::of(abi, 1);
+        story.ask(abi, 0, (77, 1));
+        story.started(0, 0, 0).unwrap();
+        // What the guest writes later changes nothing: 77 is due.
+        story.ask(abi, 0, (78, 2));
+        story.answer(abi, 0, (77, 1));
+        story.complete(0, 0, 0, 0).unwrap();
+    }
+}
+
+/// One layout, and the other.
+const OTHERS: [(Abi, Abi); 2] = [(Abi::Bits64, Abi::Bits32), (Abi::Bits32, Abi::Bits64)];
+
+/// Pairs with every byte set, so that one read at another place is another one.
+const ASKED: [Pair; 3] = [
+    (0x1122_3344_5566_7788, 1),
+    (0xA1A2_A3A4_A5A6_A7A8, 2),
+    (0xB1B2_B3B4_B5B6_B7B8, 3),
+];
+
+#[test]
+fn pairs_of_each_layout_at_its_own_places() {
+    for (abi, other) in OTHERS {
+        // Slot 0 begins at one byte in both, but an id does not.
+        let mut story = Story::of(abi, 9);
+        story.ask(abi, 0, ASKED[0]);
+        story.answer(abi, 0, ASKED[0]);
+        story.answered(0).unwrap();
+        // Slot 1: asked and answered where the port has it, with other pairs where it has not.
+        story.ask(other, 1, ASKED[1]);
+        story.ask(abi, 1, ASKED[2]);
+        story.started(0, 0, 1).unwrap();
+        story.answer(other, 1, ASKED[1]);
+        story.answer(abi, 1, ASKED[2]);
+        story.complete(0, 0, 1, 0).unwrap();
+    }
+}
+
+#[test]
+fn an_answer_at_the_other_layouts_place() {
+    for (abi, other) in OTHERS {
+        let mut story = Story::of(abi, 9);
+        for index in 0..2 {
+            story.ask(abi, index, ASKED[index as usize]);
+        }
+        story.answer(abi, 0, ASKED[0]);
+        story.answered(0).unwrap();
+        story.answer(other, 1, ASKED[1]);
+        faulty(story.answered(0), "pairs taken");
+    }
+}
+
+#[test]
+fn reopened_with_the_other_layout() {
+    for (abi, other) in OTHERS {
+        let mut story = Story::of(abi, 9);
+        // A refused open says nothing of the layout.
+        story.open_sheet(0, &usual_sheet_of(other), 3).unwrap();
+        story.ask(abi, 0, ASKED[0]);
+        story.answer(abi, 0, ASKED[0]);
+        story.answered(0).unwrap();
+        story.close(0, 0).unwrap();
+        story.open_sheet(0, &usual_sheet_of(other), 0).unwrap();
+        // From index 0 again, in the new layout.
+        for index in 0..3 {
+            let pair = ASKED[index as usize];
+            story.ask(other, index, pair);
+            story.started(0, 0, u64::from(index)).unwrap();
+            story.answer(other, index, pair);
+            story.complete(0, 0, index, 0).unwrap();
+            story.rings.clone_from(&story.left);
+        }
+    }
 }
 
 #[test]

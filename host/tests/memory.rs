@@ -2,14 +2,14 @@
 
 use generate::{Random, UNTOUCHED};
 use kernelharp::layout::{
-    read_u32, slot_at, write_u32, GRANTS_BYTES, RING_BYTES, REQ_EVENT, REQ_PROD, RESPONSE_BYTES,
-    RINGS_BYTES, RSP_PROD, SLOT_BYTES,
+    read_u32, write_u32, Abi, GRANTS_BYTES, HEADER_BYTES, REQ_EVENT, REQ_PROD, RINGS_BYTES,
+    RING_BYTES, RSP_PROD,
 };
 use kernelharp::words::{DONE_WORDS, TURN_WORDS};
 use kernelharp::{
     Completion, Done, Memory, Reason, Refusal, Serial, Status, Tag, Turn, MEMORY_WORDS,
 };
-use tests::full_sheet;
+use tests::{usual_sheet_of, ABIS};
 
 const UNKNOWN: u8 = 9;
 const FLUSH: u8 = 3;
@@ -49,13 +49,13 @@ impl Bench {
 
     /// Port 0 open with C = R = 2^32 - 1, which calls would take too long to reach. The two words
     /// that count along with answered requests hold them.
-    fn at_the_wrap() -> Bench {
+    fn at_the_wrap(abi: Abi) -> Bench {
         let mut bench = Bench::new();
-        assert_eq!(bench.memory.open(0, &full_sheet("w", "512", "2008")), 0);
+        assert_eq!(bench.memory.open(0, &usual_sheet_of(abi)), 0);
         let mut words = Vec::new();
         for index in 0..100 {
             words.push(*bench.memory.words());
-            bench.rings[slot_at(index)] = UNKNOWN;
+            bench.rings[abi.slot_at(index)] = UNKNOWN;
             write_u32(&mut bench.rings, REQ_PROD, index + 1);
             assert!(matches!(bench.turn(), Turn::Answered { .. }));
         }
@@ -76,52 +76,58 @@ impl Bench {
 
 #[test]
 fn answered_at_the_wrap() {
-    let mut bench = Bench::at_the_wrap();
-    bench.rings[slot_at(31)] = UNKNOWN;
-    let Turn::Answered { reason, notify, .. } = bench.turn() else {
-        panic!("an unknown operation is answered")
-    };
-    assert_eq!((reason, notify), (Reason::UnknownOperation, true));
-    assert_eq!(read_u32(&bench.rings, RSP_PROD), 0);
-    assert_eq!(bench.rings[slot_at(31) + 8], UNKNOWN);
-    assert_eq!(bench.turn(), Turn::Idle);
-    assert_eq!(read_u32(&bench.rings, REQ_EVENT), 1);
+    for abi in ABIS {
+        let mut bench = Bench::at_the_wrap(abi);
+        bench.rings[abi.slot_at(31)] = UNKNOWN;
+        let Turn::Answered { reason, notify, .. } = bench.turn() else {
+            panic!("an unknown operation is answered")
+        };
+        assert_eq!((reason, notify), (Reason::UnknownOperation, true));
+        assert_eq!(read_u32(&bench.rings, RSP_PROD), 0);
+        assert_eq!(bench.rings[abi.slot_at(31) + 8], UNKNOWN);
+        assert_eq!(bench.turn(), Turn::Idle);
+        assert_eq!(read_u32(&bench.rings, REQ_EVENT), 1);
+    }
 }
 
 #[test]
 fn started_at_the_wrap() {
-    let mut bench = Bench::at_the_wrap();
-    bench.rings[slot_at(31)] = FLUSH;
-    let Turn::Started(plan) = bench.turn() else {
-        panic!("a flush starts")
-    };
-    assert_eq!(plan.name.tag, Tag(0));
-    assert_eq!(plan.name.serial, Serial(u32::MAX));
-    // One in flight: req_prod may run 31 ahead of C = 0, no further.
-    write_u32(&mut bench.rings, REQ_PROD, 32);
-    assert!(matches!(bench.turn(), Turn::Overrun(_)));
-    let done = bench.complete(Completion {
-        port: 0,
-        tag: 0,
-        serial: u32::MAX,
-        result: 0,
-    });
-    assert_eq!(done.map(|done| done.status), Ok(Status::Okay));
-    assert_eq!(read_u32(&bench.rings, RSP_PROD), 0);
-    assert_eq!(bench.rings[slot_at(31) + 8], FLUSH);
+    for abi in ABIS {
+        let mut bench = Bench::at_the_wrap(abi);
+        bench.rings[abi.slot_at(31)] = FLUSH;
+        let Turn::Started(plan) = bench.turn() else {
+            panic!("a flush starts")
+        };
+        assert_eq!(plan.name.tag, Tag(0));
+        assert_eq!(plan.name.serial, Serial(u32::MAX));
+        // One in flight: req_prod may run 31 ahead of C = 0, no further.
+        write_u32(&mut bench.rings, REQ_PROD, 32);
+        assert!(matches!(bench.turn(), Turn::Overrun(_)));
+        let done = bench.complete(Completion {
+            port: 0,
+            tag: 0,
+            serial: u32::MAX,
+            result: 0,
+        });
+        assert_eq!(done.map(|done| done.status), Ok(Status::Okay));
+        assert_eq!(read_u32(&bench.rings, RSP_PROD), 0);
+        assert_eq!(bench.rings[abi.slot_at(31) + 8], FLUSH);
+    }
 }
 
 #[test]
 fn idle_and_overrun_at_the_wrap() {
-    for (req_prod, idle) in [(u32::MAX, true), (31, false), (32, false)] {
-        let mut bench = Bench::at_the_wrap();
-        write_u32(&mut bench.rings, REQ_PROD, req_prod);
-        write_u32(&mut bench.rings, REQ_EVENT, 77);
-        let turn = bench.turn();
-        assert_eq!(turn == Turn::Idle, idle);
-        assert_eq!(matches!(turn, Turn::Overrun(_)), req_prod == 32);
-        let event = if idle { 0 } else { 77 };
-        assert_eq!(read_u32(&bench.rings, REQ_EVENT), event);
+    for abi in ABIS {
+        for (req_prod, idle) in [(u32::MAX, true), (31, false), (32, false)] {
+            let mut bench = Bench::at_the_wrap(abi);
+            write_u32(&mut bench.rings, REQ_PROD, req_prod);
+            write_u32(&mut bench.rings, REQ_EVENT, 77);
+            let turn = bench.turn();
+            assert_eq!(turn == Turn::Idle, idle);
+            assert_eq!(matches!(turn, Turn::Overrun(_)), req_prod == 32);
+            let event = if idle { 0 } else { 77 };
+            assert_eq!(read_u32(&bench.rings, REQ_EVENT), event);
+        }
     }
 }
 
@@ -131,29 +137,39 @@ fn any_word(random: &mut Random) -> u64 {
     random.word().checked_shr(64 - bits).unwrap_or(0)
 }
 
-/// The ring bytes that a call may have written, and no others.
-fn allowed(port: usize, at: usize, responded: bool) -> bool {
+/// The ring bytes that an idle turn may have written, and no others.
+fn is_event(at: usize) -> bool {
+    (REQ_EVENT..REQ_EVENT + 4).contains(&(at % RING_BYTES))
+}
+
+/// Those that a response of a layout may have written, and no others.
+fn is_response(abi: Abi, port: usize, at: usize) -> bool {
     let in_page = at % RING_BYTES;
-    if !responded {
-        return (REQ_EVENT..REQ_EVENT + 4).contains(&in_page);
-    }
-    let in_slot = in_page >= slot_at(0) && (in_page - slot_at(0)) % SLOT_BYTES < RESPONSE_BYTES;
     let in_rsp_prod = (RSP_PROD..RSP_PROD + 4).contains(&in_page);
+    let in_slot = in_page
+        .checked_sub(HEADER_BYTES)
+        .is_some_and(|at| at % abi.slot_bytes() < abi.response_bytes());
     at / RING_BYTES == port && (in_slot || in_rsp_prod)
 }
 
-fn check_rings(before: &[u8], after: &[u8], port: usize, responded: bool) {
-    let pairs = before.iter().zip(after).enumerate();
-    for (at, _) in pairs.filter(|(_, (was, is))| was != is) {
-        assert!(allowed(port, at, responded), "ring byte {at} was written");
-    }
+/// Where two rings differ.
+fn written(before: &[u8], after: &[u8]) -> Vec<usize> {
+    let differ = |at: &usize| before[*at] != after[*at];
+    (0..before.len()).filter(differ).collect()
+}
+
+/// A response is all in the one layout or all in the other, as the port's word of memory has it.
+fn check_response(before: &[u8], after: &[u8], port: usize) {
+    let written = written(before, after);
+    let of = |abi: &Abi| written.iter().all(|&at| is_response(*abi, port, at));
+    assert!(ABIS.iter().any(of), "ring bytes {written:?} were written");
 }
 
 fn any_call(random: &mut Random, bench: &mut Bench) {
     let before = bench.rings.clone();
     let port = random.below(9) as u32;
     match random.index(8) {
-        0 => check_code(bench.memory.open(port, &full_sheet("w", "512", "2008"))),
+        0 => check_code(bench.memory.open(port, &usual_sheet_of(random.pick(&ABIS)))),
         1 => check_code(bench.memory.close(port)),
         2..=4 => {
             let named = Completion {
@@ -163,7 +179,7 @@ fn any_call(random: &mut Random, bench: &mut Bench) {
                 result: 8,
             };
             match bench.complete(named) {
-                Ok(done) => check_rings(&before, &bench.rings, done.port.index(), true),
+                Ok(done) => check_response(&before, &bench.rings, done.port.index()),
                 Err(code) => {
                     check_code(code);
                     assert!(before == bench.rings);
@@ -171,8 +187,8 @@ fn any_call(random: &mut Random, bench: &mut Bench) {
             }
         }
         _ => match bench.turn() {
-            Turn::Idle => check_rings(&before, &bench.rings, 0, false),
-            Turn::Answered { port, .. } => check_rings(&before, &bench.rings, port.index(), true),
+            Turn::Idle => assert!(written(&before, &bench.rings).into_iter().all(is_event)),
+            Turn::Answered { port, .. } => check_response(&before, &bench.rings, port.index()),
             Turn::Started(_) | Turn::Overrun(_) => assert!(before == bench.rings),
             other => panic!("{other}"),
         },

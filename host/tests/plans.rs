@@ -1,25 +1,32 @@
 //! What a started request is asked of the host, and the results that are expected (rules 5.22 to 5.29, 6.9,
-//! 6.10).
+//! 6.10), in both layouts.
 
 use generate::turn_words;
-use kernelharp::layout::slot_at;
+use kernelharp::layout::Abi;
 use kernelharp::words::{extent, kind, turn, TURN_WORDS};
-use second::{Extent, Operation, Status, Turned};
-use tests::{usual_sheet, Ask, Bench};
+use second::{Extent, Operation, Plan, Status, Turned};
+use tests::{full_sheet, usual_sheet_of, with_protocol, Ask, Bench, ABIS};
 
-#[test]
-fn plan_of_a_write() {
-    let mut bench = Bench::open(&usual_sheet());
-    let mut ask = Ask::of(1, 3, 1000, 0, 7);
-    ask.segments = vec![(5, 0, 7), (1023, 7, 7), (0, 2, 4)];
+/// The plan of a start on port 0, which leaves the pages.
+fn started(abi: Abi, ask: &Ask) -> Plan {
+    let mut bench = Bench::open(&usual_sheet_of(abi));
     let before = bench.clone();
-    bench.post(0, &ask);
+    bench.post(0, ask);
     let lent = bench.rings.clone();
     let Turned::Started(plan) = bench.turn() else {
         panic!("a start")
     };
     assert_eq!(bench.rings, lent, "a start leaves the pages");
     assert_ne!(bench.backend, before.backend);
+    plan
+}
+
+#[test]
+fn plan_of_a_write() {
+    let mut ask = Ask::of(1, 3, 1000, 0, 7);
+    ask.segments = vec![(5, 0, 7), (1023, 7, 7), (0, 2, 4)];
+    let [plan, other] = ABIS.map(|abi| started(abi, &ask));
+    assert_eq!(plan, other, "64-bit and 32-bit");
     let stretch = |frame, first_sector, length, disk_sector| Extent {
         frame,
         first_sector,
@@ -46,16 +53,36 @@ fn plan_of_a_write() {
 
 #[test]
 fn plans_without_extents() {
-    let mut bench = Bench::open(&usual_sheet());
-    let mut plan = |ask: &Ask| {
-        let plan = bench.serve(ask).unwrap();
-        assert!(plan.extents.is_empty());
-        (plan.start, plan.count, plan.secure)
-    };
-    assert_eq!(plan(&Ask::of(3, 0, 77, 0, 0)), (0, 0, false));
-    assert_eq!(plan(&Ask::of(2, 0, 77, 0, 0)), (0, 0, false));
-    assert_eq!(plan(&Ask::discard(0xFE, 77, 9)), (77, 9, false));
-    assert_eq!(plan(&Ask::discard(0xFF, 77, 9)), (77, 9, true));
+    // Start and count of a discard have 64 bits in both layouts.
+    let (far, many) = (0x0102_0304_0506_0708, 0x1112_1314_1516_1718);
+    let large = full_sheet("w", "512", &u64::MAX.to_string());
+    for abi in ABIS {
+        let mut bench = Bench::open(&with_protocol(&large, abi));
+        let mut plan = |ask: &Ask| {
+            let plan = bench.serve(ask).unwrap();
+            assert!(plan.extents.is_empty());
+            (plan.start, plan.count, plan.secure)
+        };
+        assert_eq!(plan(&Ask::of(3, 0, 77, 0, 0)), (0, 0, false));
+        assert_eq!(plan(&Ask::of(2, 0, 77, 0, 0)), (0, 0, false));
+        assert_eq!(plan(&Ask::discard(0xFE, 77, 9)), (77, 9, false));
+        assert_eq!(plan(&Ask::discard(0xFF, 77, 9)), (77, 9, true));
+        assert_eq!(plan(&Ask::discard(0, far, many)), (far, many, false));
+    }
+}
+
+/// The status that a result gives; the response in slot 0 says so, and the bytes behind it stay.
+fn status_of(abi: Abi, ask: &Ask, result: i32) -> Status {
+    let mut bench = Bench::open(&usual_sheet_of(abi));
+    bench.serve(ask).unwrap();
+    let done = bench.complete(0, 0, 0, result).unwrap();
+    let (response, rest) = bench.slot(0, 0).split_at(abi.response_bytes());
+    assert_eq!(response[..8], ask.id.to_le_bytes());
+    assert_eq!(response[8..10], [ask.operation, 0]);
+    assert_eq!(response[10..12], (done.status as i16).to_le_bytes());
+    assert!(response[12..].iter().all(|&byte| byte == 0));
+    assert_eq!(rest, &ask.bytes(abi)[response.len()..]);
+    done.status
 }
 
 #[test]
@@ -75,13 +102,10 @@ fn expected_results() {
             (-95, Status::NotSupported),
             (95, Status::Error),
         ] {
-            let mut bench = Bench::open(&usual_sheet());
-            bench.serve(&ask).unwrap();
-            let done = bench.complete(0, 0, 0, result).unwrap();
-            assert_eq!(done.status, status, "{expected} and {result}");
-            let slot = &bench.page(0)[slot_at(0)..];
-            assert_eq!(slot[8], ask.operation);
-            assert_eq!(slot[10..12], (status as i16).to_le_bytes());
+            for abi in ABIS {
+                let came = status_of(abi, &ask, result);
+                assert_eq!(came, status, "{expected} and {result}, {abi:?}");
+            }
         }
     }
 }

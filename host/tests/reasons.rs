@@ -1,14 +1,23 @@
-//! Reasons 21 to 29, each on both sides of its line and before those that come later (rules 8.21 to 8.29).
+//! Reasons 21 to 29, each on both sides of its line and before those that come later (rules 8.21 to 8.29),
+//! in both layouts.
 
-use tests::{full_sheet, sheet, usual_sheet, Ask, Bench};
+use kernelharp::layout::Abi;
+use tests::{full_sheet, sheet, usual_sheet, usual_sheet_of, with_protocol, Ask, Bench, ABIS};
+
+/// A number that is the same for both layouts.
+fn either(number: impl Fn(Abi) -> u32) -> u32 {
+    let [number, other] = ABIS.map(number);
+    assert_eq!(number, other, "64-bit and 32-bit");
+    number
+}
 
 /// The reason for a request on the usual disk, 0 when it starts.
 fn usual(ask: &Ask) -> u32 {
-    Bench::open(&usual_sheet()).number(ask)
+    on(&usual_sheet(), ask)
 }
 
 fn on(sheet: &[u8], ask: &Ask) -> u32 {
-    Bench::open(sheet).number(ask)
+    either(|abi| Bench::open(&with_protocol(sheet, abi)).number(ask))
 }
 
 #[test]
@@ -91,6 +100,8 @@ fn reason_25() {
     }
     assert_eq!(usual(&Ask::discard(0, 9999, 0)), 25);
     assert_eq!(usual(&Ask::discard(0, 0, 1)), 0);
+    // The count has 64 bits: its low half alone would be 0.
+    assert_eq!(usual(&Ask::discard(0, 0, 1 << 32)), 28);
 }
 
 #[test]
@@ -116,13 +127,15 @@ fn reason_26() {
 #[test]
 fn reason_27() {
     let granted = |operation, frame: u32, grant| {
-        let mut bench = Bench::open(&usual_sheet());
-        bench.grant(0, 5, grant);
-        bench.grant(0, 1023, grant);
-        let mut ask = Ask::of(operation, 2, 0, 0, 7);
-        ask.segments[0].0 = 6;
-        ask.segments[1].0 = frame;
-        bench.number(&ask)
+        either(|abi| {
+            let mut bench = Bench::open(&usual_sheet_of(abi));
+            bench.grant(0, 5, grant);
+            bench.grant(0, 1023, grant);
+            let mut ask = Ask::of(operation, 2, 0, 0, 7);
+            ask.segments[0].0 = 6;
+            ask.segments[1].0 = frame;
+            bench.number(&ask)
+        })
     };
     for (grant, read, write) in [
         (0, 27, 27),
@@ -141,12 +154,14 @@ fn reason_27() {
         assert_eq!(granted(0, frame, 2), 27, "frame {frame}");
     }
     // 27 before 28; the grants of another port say nothing here.
-    let mut bench = Bench::open(&usual_sheet());
-    bench.grant(0, 5, 0);
-    assert_eq!(bench.number(&Ask::of(0, 1, 9999, 0, 7)), 27);
-    let mut bench = Bench::open(&usual_sheet());
-    bench.grant(1, 5, 0);
-    assert_eq!(bench.number(&Ask::usual_read()), 0);
+    for abi in ABIS {
+        let mut bench = Bench::open(&usual_sheet_of(abi));
+        bench.grant(0, 5, 0);
+        assert_eq!(bench.number(&Ask::of(0, 1, 9999, 0, 7)), 27);
+        let mut bench = Bench::open(&usual_sheet_of(abi));
+        bench.grant(1, 5, 0);
+        assert_eq!(bench.number(&Ask::usual_read()), 0);
+    }
 }
 
 #[test]

@@ -2,7 +2,7 @@
 
 use kernelharp::layout::{GRANTS_BYTES, RINGS_BYTES};
 use second::Turned;
-use tests::{usual_sheet, Ask, Bench};
+use tests::{usual_sheet, usual_sheet_of, Ask, Bench, ABIS};
 
 #[test]
 fn refusal_01() {
@@ -104,13 +104,15 @@ fn refusal_06() {
 
 #[test]
 fn stale_completion_after_reopening() {
-    let mut bench = Bench::open(&usual_sheet());
-    bench.serve(&Ask::usual_read()).unwrap();
-    bench.complete(0, 0, 0, 8).unwrap();
-    bench.backend.close(0).unwrap();
-    bench.backend.open(0, &usual_sheet()).unwrap();
-    bench.set_req_prod(0, 0);
-    assert_eq!(bench.refused_complete(0, 0, 0), 6);
-    bench.serve(&Ask::usual_read()).unwrap();
-    assert!(bench.complete(0, 0, 0, 8).is_ok());
+    for (abi, again) in ABIS.map(|abi| ABIS.map(|again| (abi, again))).concat() {
+        let mut bench = Bench::open(&usual_sheet_of(abi));
+        bench.serve(&Ask::usual_read()).unwrap();
+        bench.complete(0, 0, 0, 8).unwrap();
+        bench.backend.close(0).unwrap();
+        bench.backend.open(0, &usual_sheet_of(again)).unwrap();
+        bench.set_req_prod(0, 0);
+        assert_eq!(bench.refused_complete(0, 0, 0), 6);
+        bench.serve(&Ask::usual_read()).unwrap();
+        assert!(bench.complete(0, 0, 0, 8).is_ok());
+    }
 }

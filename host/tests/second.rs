@@ -2,7 +2,7 @@
 //! comparison of two programs.
 
 use generate::{run, Core, Generator, Step, World};
-use kernelharp::layout::{page, page_mut, read_u32, slot_at, write_u32, RSP_PROD};
+use kernelharp::layout::{page, page_mut, read_u32, write_u32, Abi, PORTS, RSP_PROD};
 use kernelharp::words::{done, kind, turn, DoneWords, TurnWords};
 use kernelharp::Completion;
 use second::{Backend, Refusal};
@@ -80,6 +80,12 @@ fn refused_calls_leave_the_backend() {
 enum Flaw {
     /// Guest bytes stay in the response's padding.
     Padding,
+    /// A response has padding in a layout that has none.
+    NoPadding,
+    /// Every port is a 64-bit guest's.
+    Layout,
+    /// A port opened again keeps its layout.
+    LayoutKept,
     /// rsp_prod is taken from the page.
     RspProd,
     /// A count is invented.
@@ -100,6 +106,8 @@ struct Flawed {
     backend: Backend,
     flaw: Flaw,
     words: [u64; 1],
+    /// The layout that each port was opened with.
+    abis: [Option<Abi>; PORTS],
 }
 
 impl Flawed {
@@ -108,13 +116,54 @@ impl Flawed {
             backend: Backend::new(),
             flaw,
             words: [0],
+            abis: [None; PORTS],
         }
     }
+
+    /// The layout that the flaw puts in the place of the one asked for.
+    fn other_layout(&self, port: u32) -> Option<Abi> {
+        match self.flaw {
+            Flaw::Layout => Some(Abi::Bits64),
+            Flaw::LayoutKept => self.abis.get(port as usize).copied().flatten(),
+            _ => None,
+        }
+    }
+
+    /// The four bytes behind the status of the response given last, as the flaw has them.
+    fn spoil_padding(&self, lent: &[u8], rings: &mut [u8], port: usize) {
+        let abi = self.abis[port].unwrap_or_default();
+        let index = read_u32(page(rings, port), RSP_PROD).wrapping_sub(1);
+        let at = abi.slot_at(index) + 12;
+        let bytes = match (self.flaw, abi) {
+            (Flaw::Padding, Abi::Bits64) => read_u32(page(lent, port), at),
+            (Flaw::NoPadding, Abi::Bits32) => 0,
+            _ => return,
+        };
+        write_u32(page_mut(rings, port), at, bytes);
+    }
+}
+
+/// A sheet with another layout's text in the place of its own, where it has one.
+fn with_layout(sheet: &[u8], abi: Abi) -> Vec<u8> {
+    let mut sheet = sheet.to_vec();
+    let texts = [Abi::Bits64, Abi::Bits32].map(Abi::protocol);
+    let is_text = |bytes: &[u8]| texts.iter().any(|text| text.as_bytes() == bytes);
+    if let Some(at) = sheet.windows(texts[0].len()).position(is_text) {
+        sheet[at..][..texts[0].len()].copy_from_slice(abi.protocol().as_bytes());
+    }
+    sheet
 }
 
 impl Core for Flawed {
     fn open(&mut self, port: u32, sheet: &[u8]) -> u32 {
-        let code = Core::open(&mut self.backend, port, sheet);
+        let sheet = match self.other_layout(port) {
+            Some(abi) => with_layout(sheet, abi),
+            None => sheet.to_vec(),
+        };
+        let code = Core::open(&mut self.backend, port, &sheet);
+        if code == 0 {
+            self.abis[port as usize] = Some(Abi::of_sheet(&sheet));
+        }
         match self.flaw {
             Flaw::Sheet if code == Refusal::SheetShape as u32 => Refusal::SheetText as u32,
             _ => code,
@@ -148,11 +197,8 @@ impl Core for Flawed {
         }
         let port = answer[turn::PORT] as usize;
         match (answer[turn::KIND], self.flaw) {
-            (kind::ANSWERED, Flaw::Padding) => {
-                let index = read_u32(page(rings, port), RSP_PROD).wrapping_sub(1);
-                let at = slot_at(index) + 12;
-                let stays = read_u32(page(&lent, port), at);
-                write_u32(page_mut(rings, port), at, stays);
+            (kind::ANSWERED, Flaw::Padding | Flaw::NoPadding) => {
+                self.spoil_padding(&lent, rings, port);
             }
             (kind::ANSWERED, Flaw::RspProd) => {
                 let next = read_u32(page(&lent, port), RSP_PROD).wrapping_add(1);
@@ -179,6 +225,9 @@ impl Core for Flawed {
 fn flawed_programs_are_found() {
     for flaw in [
         Flaw::Padding,
+        Flaw::NoPadding,
+        Flaw::Layout,
+        Flaw::LayoutKept,
         Flaw::RspProd,
         Flaw::Count,
         Flaw::Notify,
@@ -196,7 +245,14 @@ fn flawed_programs_are_found() {
 
 #[test]
 fn flaws_against_demand_3_are_found_without_a_second_program() {
-    for flaw in [Flaw::Answer, Flaw::Memory, Flaw::Close, Flaw::Sheet] {
+    for flaw in [
+        Flaw::Layout,
+        Flaw::LayoutKept,
+        Flaw::Answer,
+        Flaw::Memory,
+        Flaw::Close,
+        Flaw::Sheet,
+    ] {
         let mut flawed = Flawed::new(flaw);
         let failure =
             run(&mut [&mut flawed], SEED, 20_000).expect_err("a flawed program keeps demand 3");

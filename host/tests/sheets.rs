@@ -1,8 +1,8 @@
 //! Node sheets: what a sound one says, and refusals 11 to 15 on both sides of their lines (rules 7.11 to
 //! 7.15).
 
-use second::{read_sheet, Disk};
-use tests::{sheet, Bench};
+use second::{read_sheet, Disk, Layout};
+use tests::{sheet, usual_sheet, Bench};
 
 /// The number a sheet is refused with, 0 when it opens the port.
 fn sheet_number(sheet: &[u8]) -> u32 {
@@ -45,6 +45,7 @@ fn sheet_of_21_bytes() {
         secure: false,
         sector_size: 512,
         sectors: 2008,
+        layout: Layout::BITS_64,
     };
     assert_eq!(read_sheet(&SHEET_OF_21), Ok(disk));
     assert_eq!(sheet(&[(1, "w"), (6, "512"), (7, "2008")]), SHEET_OF_21);
@@ -58,6 +59,32 @@ fn sheet_with_every_node() {
     let disk = read_sheet(&sheet(&entries)).unwrap();
     assert_eq!((disk.sector_size, disk.sectors, disk.unit()), (4096, 0, 8));
     assert!(!disk.writable && disk.barrier && !disk.flush && disk.discard && !disk.secure);
+}
+
+#[test]
+fn protocol_says_the_layout() {
+    let layout = |sheet: &[u8]| read_sheet(sheet).unwrap().layout;
+    assert_eq!(layout(&usual_sheet()), Layout::BITS_64);
+    assert_eq!(layout(&with_node(8, "x86_64-abi")), Layout::BITS_64);
+    assert_eq!(layout(&with_node(8, "x86_32-abi")), Layout::BITS_32);
+    // Near either text, and between the two.
+    for text in [
+        "X86_32-abi",
+        "x86_16-abi",
+        "x86_31-abi",
+        "x86_34-abi",
+        "x86_62-abi",
+        "x86_64-abix86_32-abi",
+    ] {
+        assert_eq!(node_number(8, text), 13, "{text:?}");
+    }
+    // It stands for no other node, and is no excuse for a later one.
+    for text in ["x86_64-abi", "x86_32-abi"] {
+        let unsized_disk = [(1, "w"), (6, "512"), (8, text)];
+        assert_eq!(sheet_number(&sheet(&unsized_disk)), 15);
+        let two_pages = [(1, "w"), (6, "512"), (7, "2008"), (8, text), (9, "1")];
+        assert_eq!(sheet_number(&sheet(&two_pages)), 14);
+    }
 }
 
 #[test]
@@ -143,11 +170,12 @@ fn refusal_13() {
             assert_eq!(node_number(node, text), 13, "{text:?}");
         }
     }
-    for text in ["", "x86_32-abi", "x86_64-ab", "x86_64-abi\0"] {
+    for text in ["", "x86_64-ab", "x86_64-abi\0", "x86_32-ab", "x86_32-abi "] {
         assert_eq!(node_number(8, text), 13, "{text:?}");
     }
     assert_eq!(node_number(1, "r"), 0);
     assert_eq!(node_number(8, "x86_64-abi"), 0);
+    assert_eq!(node_number(8, "x86_32-abi"), 0);
 }
 
 #[test]

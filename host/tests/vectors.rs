@@ -1,23 +1,36 @@
-//! The worked cases of section 9, read from their file and run through the second program and the
-//! archive.
+//! The vectors of tests/vectors, each line of them, run through the second program and the archive:
+//! the worked cases of section 9, node sheets, requests, and records byte by byte. What is due in
+//! either layout is run in both.
 
-use kernelharp::layout::{slot_at, HEADER_BYTES, RESPONSE_BYTES, SLOT_BYTES};
-use second::{backlog, read_sheet, response_bytes, Backlog, Status, Turned};
-use tests::{full_sheet, Ask, Bench};
+use kernelharp::layout::{read_u64, Abi, HEADER_BYTES, PORT_GRANTS};
+use second::{
+    backlog, read_sheet, response_bytes, Backlog, Disk, Layout, Plan, Reason, Status, Turned,
+};
+use tests::{full_sheet, sheet, usual_sheet_of, with_protocol, Ask, Bench, ABIS};
 
-const VECTORS: &str = include_str!("../../tests/vectors/worked.txt");
+const WORKED: &str = include_str!("../../tests/vectors/worked.txt");
+const SHEETS: &str = include_str!("../../tests/vectors/sheets.txt");
+const REQUESTS: &str = include_str!("../../tests/vectors/requests.txt");
+const RECORDS: &str = include_str!("../../tests/vectors/records.txt");
 
-/// The cases of one kind: the words given, and what is due.
-fn cases(kind: &str) -> Vec<(Vec<&'static str>, &'static str)> {
-    let found: Vec<_> = VECTORS
+/// What is given and what is due in each line of a file.
+fn lines(file: &'static str) -> Vec<(&'static str, &'static str)> {
+    let found: Vec<_> = file
         .lines()
-        .filter(|line| !line.starts_with('#') && !line.trim().is_empty())
+        .filter(|line| !line.starts_with('#') && !line.is_empty())
         .map(|line| line.trim_start_matches("* "))
-        .filter_map(|line| line.strip_prefix(kind)?.strip_prefix(' '))
-        .map(|case| {
-            let (given, due) = case.split_once('=').expect("a case has a =");
-            (given.split_whitespace().collect(), due.trim())
-        })
+        .map(|line| line.split_once(" = ").expect("a case has a ="))
+        .collect();
+    assert!(!found.is_empty());
+    found
+}
+
+/// The worked cases of one kind: the words given, and what is due.
+fn cases(kind: &str) -> Vec<(Vec<&'static str>, &'static str)> {
+    let found: Vec<_> = lines(WORKED)
+        .into_iter()
+        .filter_map(|(given, due)| Some((given.strip_prefix(kind)?.strip_prefix(' ')?, due)))
+        .map(|(given, due)| (given.split_whitespace().collect(), due))
         .collect();
     assert!(!found.is_empty(), "no case of {kind}");
     found
@@ -28,9 +41,14 @@ fn number<T: std::str::FromStr>(word: &str) -> T {
         .unwrap_or_else(|_| panic!("{word} is no number"))
 }
 
-fn bytes(words: &[&str]) -> Vec<u8> {
-    let byte = |word: &&str| u8::from_str_radix(word, 16).expect("hex bytes");
-    words.iter().map(byte).collect()
+/// Bytes in hex, BYTE*N for a byte N times.
+fn bytes<'a>(words: impl IntoIterator<Item = &'a str>) -> Vec<u8> {
+    let run = |word: &str| {
+        let (byte, times) = word.split_once('*').unwrap_or((word, "1"));
+        let byte = u8::from_str_radix(byte, 16).expect("hex bytes");
+        vec![byte; number(times)]
+    };
+    words.into_iter().flat_map(run).collect()
 }
 
 fn status(word: &str) -> Status {
@@ -42,20 +60,26 @@ fn status(word: &str) -> Status {
     }
 }
 
+/// A layout by its bits, and as the second program has it.
+fn layout(bits: &str) -> (Abi, Layout) {
+    match bits {
+        "64" => (Abi::Bits64, Layout::BITS_64),
+        "32" => (Abi::Bits32, Layout::BITS_32),
+        _ => panic!("{bits} is no layout"),
+    }
+}
+
 #[test]
 fn every_line_is_a_case() {
     let kinds = ["sheet", "request", "index", "result", "response"];
     let run: usize = kinds.iter().map(|kind| cases(kind).len()).sum();
-    let lines = VECTORS
-        .lines()
-        .filter(|line| !line.starts_with('#') && !line.is_empty());
-    assert_eq!(run, lines.count());
+    assert_eq!(run, lines(WORKED).len());
 }
 
 #[test]
 fn sheets() {
     for (given, due) in cases("sheet") {
-        let sheet = bytes(&given);
+        let sheet = bytes(given);
         let disk = read_sheet(&sheet).expect("a sound sheet");
         let mode = if disk.writable { "w" } else { "r" };
         assert_eq!(due, format!("{mode} {} {}", disk.sector_size, disk.sectors));
@@ -70,8 +94,6 @@ fn requests() {
         let &[mode, size, sectors, grant, operation, n, start, first, last] = &given[..] else {
             panic!("nine words: {given:?}")
         };
-        let mut bench = Bench::open(&full_sheet(mode, size, sectors));
-        bench.grant(0, 5, number(grant));
         let ask = Ask::of(
             number(operation),
             number(n),
@@ -79,11 +101,15 @@ fn requests() {
             number(first),
             number(last),
         );
-        let came = match bench.serve(&ask) {
-            Ok(plan) => format!("start {}", plan.count),
-            Err(reason) => (reason as u32).to_string(),
-        };
-        assert_eq!(came, due, "{given:?}");
+        for abi in ABIS {
+            let mut bench = Bench::open(&with_protocol(&full_sheet(mode, size, sectors), abi));
+            bench.grant(0, 5, number(grant));
+            let came = match bench.serve(&ask) {
+                Ok(plan) => format!("start {}", plan.count),
+                Err(reason) => (reason as u32).to_string(),
+            };
+            assert_eq!(came, due, "{given:?}, {abi:?}");
+        }
     }
 }
 
@@ -96,23 +122,27 @@ fn indices() {
         let (taken, answered, req_prod): (u32, u32, u32) =
             (number(taken), number(answered), number(req_prod));
         let in_flight = taken.wrapping_sub(answered);
-        let came = match backlog(req_prod, taken, in_flight) {
-            Backlog::Nothing => "nothing".to_string(),
-            Backlog::Waits => format!("waits {}", (slot_at(taken) - HEADER_BYTES) / SLOT_BYTES),
-            Backlog::Overrun => "overrun".to_string(),
-        };
-        assert_eq!(came, due, "{given:?}");
-        // The wrap is too far for calls; the second program has tests of its own for it, and memory.rs
-        // those of the archive.
-        if taken < 1000 {
-            assert_eq!(index_by_calls(taken, answered, req_prod), due, "{given:?}");
+        for abi in ABIS {
+            let slot = (abi.slot_at(taken) - HEADER_BYTES) / abi.slot_bytes();
+            let came = match backlog(req_prod, taken, in_flight) {
+                Backlog::Nothing => "nothing".to_string(),
+                Backlog::Waits => format!("waits {slot}"),
+                Backlog::Overrun => "overrun".to_string(),
+            };
+            assert_eq!(came, due, "{given:?}, {abi:?}");
+            // The wrap is too far for calls; the second program has tests of its own for it, and
+            // memory.rs those of the archive.
+            if taken < 1000 {
+                let came = index_by_calls(abi, taken, answered, req_prod);
+                assert_eq!(came, due, "{given:?}, {abi:?}");
+            }
         }
     }
 }
 
 /// Brings a backend to C and R by calls, and sees from which slot it takes.
-fn index_by_calls(taken: u32, answered: u32, req_prod: u32) -> String {
-    let mut bench = Bench::open(&full_sheet("w", "512", "2008"));
+fn index_by_calls(abi: Abi, taken: u32, answered: u32, req_prod: u32) -> String {
+    let mut bench = Bench::open(&usual_sheet_of(abi));
     for index in 0..taken {
         let due = if index < answered { 25 } else { 0 };
         let ask = if index < answered {
@@ -124,8 +154,7 @@ fn index_by_calls(taken: u32, answered: u32, req_prod: u32) -> String {
     }
     // Each slot's read starts at the sector of the slot's own number.
     for slot in 0..32u32 {
-        let ask = Ask::of(0, 1, u64::from(slot), 0, 0);
-        bench.rings[slot_at(slot)..][..SLOT_BYTES].copy_from_slice(&ask.bytes());
+        bench.put(0, slot, &Ask::of(0, 1, u64::from(slot), 0, 0));
     }
     bench.set_req_prod(0, req_prod);
     match bench.turn() {
@@ -142,34 +171,166 @@ fn results() {
             panic!("two words: {given:?}")
         };
         let expected: u8 = number(expected);
-        let mut bench = Bench::open(&full_sheet("w", "512", "2008"));
-        let plan = bench
-            .serve(&Ask::of(0, 1, 0, 0, expected - 1))
-            .expect("a start");
-        let done = bench.complete(0, plan.tag, plan.serial, number(result));
-        assert_eq!(done.map(|done| done.status), Ok(status(due)), "{given:?}");
+        for abi in ABIS {
+            let mut bench = Bench::open(&usual_sheet_of(abi));
+            let plan = bench
+                .serve(&Ask::of(0, 1, 0, 0, expected - 1))
+                .expect("a start");
+            let done = bench.complete(0, plan.tag, plan.serial, number(result));
+            assert_eq!(done.map(|done| done.status), Ok(status(due)), "{given:?}");
+        }
     }
 }
 
 #[test]
 fn responses() {
     for (given, due) in cases("response") {
-        let &[id, operation, code] = &given[..] else {
-            panic!("three words: {given:?}")
+        let &[bits, id, operation, code] = &given[..] else {
+            panic!("four words: {given:?}")
         };
-        let due = bytes(&due.split_whitespace().collect::<Vec<_>>());
+        let due = bytes(due.split_whitespace());
+        let (abi, layout) = layout(bits);
         let id = u64::from_str_radix(id, 16).expect("a hex id");
-        let response = response_bytes(id, number(operation), status(code));
-        assert_eq!(response[..], due);
+        let response = response_bytes(&layout, id, number(operation), status(code));
+        assert_eq!(response, due);
         // The same by a call: a read of no segments is answered with -1.
         assert_eq!((operation, code), ("0", "-1"));
-        let mut bench = Bench::open(&full_sheet("w", "512", "2008"));
+        let mut bench = Bench::open(&usual_sheet_of(abi));
         let mut ask = Ask::of(0, 0, 0, 0, 0);
         ask.id = id;
         assert_eq!(bench.number(&ask), 25);
-        let slot = &bench.page(0)[slot_at(0)..][..SLOT_BYTES];
-        assert_eq!(slot[..RESPONSE_BYTES], due);
+        let (response, rest) = bench.slot(0, 0).split_at(due.len());
+        assert_eq!(response, due);
         // The rest of the slot stays (rule 2.11).
-        assert_eq!(slot[RESPONSE_BYTES..], ask.bytes()[RESPONSE_BYTES..]);
+        assert_eq!(rest, &ask.bytes(abi)[due.len()..]);
+    }
+}
+
+/// What a sheet says, in the words of sheets.txt.
+fn disk_words(disk: &Disk) -> String {
+    let words = [
+        (disk.writable, "writable "),
+        (disk.barrier, "barrier "),
+        (disk.flush, "flush "),
+        (disk.discard, "discard "),
+        (disk.secure, "secure "),
+        (disk.layout == Layout::BITS_32, "32-bit "),
+    ];
+    let on: String = words.map(|(on, word)| if on { word } else { "" }).concat();
+    format!("{on}sector {} sectors {}", disk.sector_size, disk.sectors)
+}
+
+#[test]
+fn sheet_vectors() {
+    for (given, due) in lines(SHEETS) {
+        let (name, sheet) = given.split_once(':').expect("a name and a sheet");
+        let sheet = bytes(sheet.split_whitespace());
+        let came = match Bench::new().backend.open(0, &sheet) {
+            Ok(()) => disk_words(&read_sheet(&sheet).expect("a sheet that opened a port")),
+            Err(refusal) => format!("refused {}", refusal as u32),
+        };
+        assert_eq!(came, due, "{name}");
+    }
+}
+
+/// What came of a request, in the words of requests.txt.
+fn judgement(served: &Result<Plan, Reason>) -> String {
+    let plan = match served {
+        Ok(plan) => plan,
+        Err(reason) => return format!("refused {} {}", *reason as u32, reason.status() as i16),
+    };
+    let mut words = format!(
+        "start {} {} {} {} {}",
+        plan.operation as u8,
+        plan.start,
+        plan.count,
+        u8::from(plan.secure),
+        plan.extents.len()
+    );
+    for extent in &plan.extents {
+        let (frame, first, length) = (extent.frame, extent.first_sector, extent.length);
+        words += &format!(" | {frame} {first} {length} {}", extent.disk_sector);
+    }
+    words
+}
+
+/// Completes a request that started, as it is expected to end.
+fn finish(bench: &mut Bench, served: &Result<Plan, Reason>) {
+    if let Ok(plan) = served {
+        let expected = match plan.operation as u8 {
+            0..=2 => plan.count as i32,
+            _ => 0,
+        };
+        let done = bench.complete(0, plan.tag, plan.serial, expected);
+        assert_eq!(done.map(|done| done.status), Ok(Status::Okay));
+    }
+}
+
+/// The sheet of a line of requests.txt.
+fn sheet_of(words: &[&str]) -> Vec<u8> {
+    let &[writable, barrier, flush, discard, secure, size, sectors] = words else {
+        panic!("seven words: {words:?}")
+    };
+    let mode = if writable == "1" { "w" } else { "r" };
+    let features = [(2, barrier), (3, flush), (4, discard), (5, secure)];
+    sheet(&[&[(1, mode)], &features[..], &[(6, size), (7, sectors)]].concat())
+}
+
+/// The request of a line of requests.txt, and the grant byte of its frame.
+fn ask_of(words: &[&str]) -> (Ask, usize, u8) {
+    let &[operation, byte_1, start, frame, first, last, grant, count] = words else {
+        panic!("eight words: {words:?}")
+    };
+    let ask = match operation {
+        "5" => Ask::discard(number(byte_1), number(start), number(count)),
+        _ => {
+            let mut ask = Ask::of(number(operation), number(byte_1), number(start), 0, 0);
+            ask.segments
+                .fill((number(frame), number(first), number(last)));
+            ask
+        }
+    };
+    (ask, number(frame), number(grant))
+}
+
+#[test]
+fn request_vectors() {
+    for (place, (given, due)) in (1..).zip(lines(REQUESTS)) {
+        let words: Vec<&str> = given.split(' ').collect();
+        let (port, request) = words.split_at(7);
+        let (mut ask, frame, grant) = ask_of(request);
+        ask.id = place;
+        for abi in ABIS {
+            let mut bench = Bench::open(&with_protocol(&sheet_of(port), abi));
+            bench.grants.fill(0);
+            if frame < PORT_GRANTS {
+                bench.grant(0, frame, grant);
+            }
+            let served = bench.serve(&ask);
+            finish(&mut bench, &served);
+            let id = read_u64(bench.slot(0, 0), 0);
+            let came = format!("{id} {}", judgement(&served));
+            assert_eq!(came, due, "{given}, {abi:?}");
+        }
+    }
+}
+
+#[test]
+fn record_vectors() {
+    for (given, due) in lines(RECORDS) {
+        let (bits, slot) = given.split_once(':').expect("bits and a slot");
+        let (abi, slot) = (layout(bits).0, bytes(slot.split_whitespace()));
+        assert_eq!(slot.len(), abi.slot_bytes(), "{given}");
+        let (words, response) = due.split_once(" : ").expect("words and a response");
+        let response = bytes(response.split_whitespace());
+        let largest = full_sheet("w", "512", &u64::MAX.to_string());
+        let mut bench = Bench::open(&with_protocol(&largest, abi));
+        bench.rings[abi.slot_at(0)..][..slot.len()].copy_from_slice(&slot);
+        bench.set_req_prod(0, 1);
+        let served = bench.serve_next();
+        finish(&mut bench, &served);
+        assert_eq!(judgement(&served), words, "{given}");
+        let left = [&response[..], &slot[response.len()..]].concat();
+        assert_eq!(bench.slot(0, 0), left, "{given}");
     }
 }

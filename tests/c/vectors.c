@@ -1,6 +1,6 @@
 /*
  * The vectors of tests/vectors, each line of them: what is given goes through the library, and what came of it, in the
- * words of its file, is what is due there.
+ * words of its file, is what is due there. Lines that name no layout are run in both.
  */
 #include "test.h"
 
@@ -65,11 +65,11 @@ static unsigned run_file(host *h, const char *path, runner *run) {
     return cases;
 }
 
-/* Once for both places of the buffers. */
-__attribute__((format(printf, 1, 2))) static void print_count(const char *format, ...) {
+/* Once for both places of the buffers, and for both layouts. */
+__attribute__((format(printf, 2, 3))) static void print_count(const host *h, const char *format, ...) {
     va_list values;
     va_start(values, format);
-    if (placement != BEFORE_GUARD)
+    if (placement != BEFORE_GUARD && h->abi == KH_BITS64)
         vprintf(format, values);
     va_end(values);
 }
@@ -95,7 +95,8 @@ enum port_word {
     SECURE,
     SECTOR_SIZE, /* 0 to 3: 512 to 4,096 */
     SECTORS,
-    CONSUMED = 9,
+    LAYOUT, /* enum kh_abi */
+    CONSUMED,
     PRODUCED,
     BUSY, /* a bit to a tag */
     PORT_WORDS = 12 + 4 * KH_TAGS
@@ -154,12 +155,13 @@ static bool run_sheet(host *h, const char *given, text *came) {
     }
     say(came, "%s", port_words(h, 0)[WRITABLE] != 0 ? "writable " : "");
     say_features(h, came);
+    say(came, "%s", port_words(h, 0)[LAYOUT] == KH_BITS32 ? "32-bit " : "");
     say(came, "sector %u sectors %" PRIu64, sector_size(h), port_words(h, 0)[SECTORS]);
     return true;
 }
 
 static void sheet_vectors(host *h) {
-    print_count("     %u sheets\n", run_file(h, "tests/vectors/sheets.txt", run_sheet));
+    print_count(h, "     %u sheets\n", run_file(h, "tests/vectors/sheets.txt", run_sheet));
 }
 
 /* ---- requests */
@@ -172,7 +174,14 @@ typedef struct {
 
 enum { NUMBERS = sizeof(numbers) / sizeof(uint64_t) };
 
-/* A turn over the request on port 0 of an empty backend, and its completion where it starts. */
+/* A turn over the request on port 0, and its completion where it starts. */
+static void serve_next(host *h) {
+    CHECK_EQ(TURN(h), KH_OK);
+    if (words(h, TURNED)[KH_TURN_KIND] == KH_STARTED)
+        CHECK_EQ(FINISH(h), KH_OK);
+}
+
+/* The same on an empty backend, which is opened and posted to before. */
 static void serve(host *h, const numbers *is, uint64_t id) {
     request r = transfer((uint8_t)is->operation, (uint8_t)is->n, is->start);
     char nodes[128];
@@ -187,10 +196,8 @@ static void serve(host *h, const numbers *is, uint64_t id) {
         r.segments[i] = (segment){(uint32_t)is->frame, (uint8_t)is->first, (uint8_t)is->last};
     r.sectors = is->count;
     post(h, 0, r);
-    put(slot_in(ring(h, 0), 0) + 8, 8, id);
-    CHECK_EQ(TURN(h), KH_OK);
-    if (words(h, TURNED)[KH_TURN_KIND] == KH_STARTED)
-        CHECK_EQ(FINISH(h), KH_OK);
+    put(slot_of(h, 0, 0) + layout_of(h, 0)->id, 8, id);
+    serve_next(h);
 }
 
 static void say_plan(const uint64_t *answer, text *came) {
@@ -202,6 +209,15 @@ static void say_plan(const uint64_t *answer, text *came) {
             plan.extents[i].length, plan.extents[i].sector);
 }
 
+/* What the turn says of the request. */
+static void say_turn(const host *h, text *came) {
+    kh_turned turned = kh_read_turn(words(h, TURNED));
+    if (turned.kind == KH_STARTED)
+        say_plan(words(h, TURNED), came);
+    else
+        say(came, "refused %" PRIu32 " %" PRId32, turned.reason, turned.status);
+}
+
 static uint64_t cases_before; /* of this file */
 
 /* The id is read off the response. */
@@ -210,19 +226,57 @@ static bool run_request(host *h, const char *given, text *came) {
     if (!read_numbers(given, (uint64_t *)&is, NUMBERS))
         return false;
     serve(h, &is, ++cases_before);
-    say(came, "%" PRIu64 " ", get(slot_in(ring(h, 0), 0), 8));
-    if (words(h, TURNED)[KH_TURN_KIND] == KH_STARTED) {
-        say_plan(words(h, TURNED), came);
-    } else {
-        kh_turned turned = kh_read_turn(words(h, TURNED));
-        say(came, "refused %" PRIu32 " %" PRId32, turned.reason, turned.status);
-    }
+    say(came, "%" PRIu64 " ", get(slot_of(h, 0, 0), 8));
+    say_turn(h, came);
     return true;
 }
 
 static void request_vectors(host *h) {
     cases_before = 0;
-    print_count("     %u requests\n", run_file(h, "tests/vectors/requests.txt", run_request));
+    print_count(h, "     %u requests\n", run_file(h, "tests/vectors/requests.txt", run_request));
+}
+
+/* ---- records */
+
+/* The layout of so many bits; NULL where there is none. */
+static const layout *layout_of_bits(unsigned long bits) {
+    return bits == 64 ? &layouts[KH_BITS64] : bits == 32 ? &layouts[KH_BITS32] : NULL;
+}
+
+/* Opens a port with these nodes and the protocol of a layout. */
+static void open_as(host *h, uint32_t port, const char *nodes, const layout *l) {
+    char text[128];
+    snprintf(text, sizeof text, "%s 8:%s", nodes, l->protocol);
+    CHECK_EQ(OPEN_NODES(h, port, text), KH_OK);
+}
+
+/* The response in a port's first slot. */
+static void say_response(const host *h, uint32_t port, text *came) {
+    for (unsigned i = 0; i < layout_of(h, port)->response; i++)
+        say(came, "%s%02X", i == 0 ? "" : " ", slot_of(h, port, 0)[i]);
+}
+
+/* BITS: BYTES */
+static bool run_record(host *h, const char *given, text *came) {
+    static uint8_t bytes[LONGEST_SHEET];
+    char *end;
+    const layout *l = layout_of_bits(strtoul(given, &end, 10));
+    size_t count;
+    if (l == NULL || *end != ':' || !read_bytes(end + 1, bytes, &count) || count != l->slot)
+        return false;
+    open_as(h, 0, "1:w 2:1 3:1 4:1 5:1 6:512 7:18446744073709551615", l);
+    memset(h->at[GRANTS], KH_GRANT_READ_WRITE, KH_GRANTS_BYTES);
+    memcpy(slot_of(h, 0, 0), bytes, count);
+    set_index(h, 0, KH_REQ_PROD, 1);
+    serve_next(h);
+    say_turn(h, came);
+    say(came, " : ");
+    say_response(h, 0, came);
+    return true;
+}
+
+static void record_vectors(host *h) {
+    print_count(h, "     %u records\n", run_file(h, "tests/vectors/records.txt", run_record));
 }
 
 /* ---- the rules' worked cases */
@@ -297,25 +351,26 @@ static bool run_result(host *h, const char *given, text *came) {
     return true;
 }
 
-/* ID OPERATION STATUS = BYTES. On port 7: a request of that id and operation, completed with a result of that status.
- */
+/* BITS ID OPERATION STATUS = BYTES. On port 7: a request of that id and operation, completed with a result of that
+ * status. */
 static bool run_response(host *h, const char *given, text *came) {
     enum { PORT = 7 };
     static const int32_t results[] = {8, -5, KH_RESULT_NOT_SUPPORTED};
+    char *rest;
+    const layout *l = layout_of_bits(strtoul(given, &rest, 10));
     uint64_t id;
     uint8_t operation;
     int status, end = 0;
-    if (sscanf(given, "%" SCNx64 " %" SCNu8 " %d%n", &id, &operation, &status, &end) != 3 || given[end] != '\0')
+    if (l == NULL || sscanf(rest, "%" SCNx64 " %" SCNu8 " %d%n", &id, &operation, &status, &end) != 3)
         return false;
-    if (status > KH_OKAY || status < KH_NOT_SUPPORTED || operation > KH_BARRIER)
+    if (rest[end] != '\0' || status > KH_OKAY || status < KH_NOT_SUPPORTED || operation > KH_BARRIER)
         return false;
-    CHECK_EQ(OPEN_NODES(h, PORT, ALL_FEATURES), KH_OK);
+    open_as(h, PORT, ALL_FEATURES, l);
     post(h, PORT, transfer(operation, 1, 0));
-    put(slot_in(ring(h, PORT), 0) + 8, 8, id);
+    put(slot_of(h, PORT, 0) + l->id, 8, id);
     CHECK_EQ(TURN(h), KH_OK);
     CHECK_EQ(COMPLETE(h, PORT, 0, 0, results[-status]), KH_OK);
-    for (int i = 0; i < KH_RESPONSE_BYTES; i++)
-        say(came, "%s%02X", i == 0 ? "" : " ", slot_in(ring(h, PORT), 0)[i]);
+    say_response(h, PORT, came);
     return true;
 }
 
@@ -340,14 +395,16 @@ static bool run_worked(host *h, const char *given, text *came) {
 static void worked_cases(host *h) {
     for (size_t i = 0; i < COUNT_OF(kinds); i++)
         kinds[i].cases = 0;
-    print_count("     %u worked cases:", run_file(h, "tests/vectors/worked.txt", run_worked));
+    print_count(h, "     %u worked cases:", run_file(h, "tests/vectors/worked.txt", run_worked));
     for (size_t i = 0; i < COUNT_OF(kinds); i++) {
         CHECK(kinds[i].cases > 0);
-        print_count(" %s%u%s", kinds[i].word, kinds[i].cases, i + 1 < COUNT_OF(kinds) ? "," : "\n");
+        print_count(h, " %s%u%s", kinds[i].word, kinds[i].cases, i + 1 < COUNT_OF(kinds) ? "," : "\n");
     }
 }
 
 int main(void) {
-    static const test tests[] = {TEST(sheet_vectors), TEST(request_vectors), TEST(worked_cases)};
-    return run_tests(tests, COUNT_OF(tests));
+    static const test named[] = {TEST(sheet_vectors), TEST(record_vectors)};
+    static const test either[] = {TEST(request_vectors), TEST(worked_cases)};
+    int failed = run_tests(named, COUNT_OF(named));
+    return run_in_both_layouts(either, COUNT_OF(either)) | failed;
 }

@@ -6,12 +6,11 @@ mod sheets;
 mod turns;
 
 use self::classes::expected_classes;
-use self::sheets::sheet_fault;
-use crate::{Buffer, Write};
+use self::sheets::{opened_class, sheet_faults};
+use crate::{Buffer, Write, ABIS};
 use history::{Event, History, State};
 use kernelharp::layout::{
-    page, read_u32, HEADER_BYTES, RING_BYTES, PORTS, REQ_EVENT, REQ_PROD, RSP_PROD, SLOTS,
-    SLOT_BYTES,
+    page, read_u32, Abi, HEADER_BYTES, PORTS, REQ_EVENT, REQ_PROD, RING_BYTES, RSP_PROD, SLOTS,
 };
 use second::{read_sheet, Disk, Refusal};
 use std::collections::{BTreeMap, HashSet};
@@ -22,6 +21,8 @@ use std::fmt;
 pub struct Census {
     counts: BTreeMap<String, u64>,
     books: [PortBooks; PORTS],
+    /// The layout of the port that the last turn served.
+    last_served: Option<Abi>,
 }
 
 /// What the history does not show at once: what was named earlier on a port.
@@ -29,6 +30,7 @@ pub struct Census {
 struct PortBooks {
     openings: u64,
     disk: Option<Disk>,
+    abi: Abi,
     /// Completed lately in this opening, and in the one before.
     completed: HashSet<(u32, u32)>,
     completed_before: HashSet<(u32, u32)>,
@@ -70,6 +72,17 @@ impl Census {
     fn tick_if(&mut self, occurred: bool, class: &str) {
         if occurred {
             self.tick(class);
+        }
+    }
+
+    /// Counts a class that either layout should show.
+    fn tick_of(&mut self, abi: Abi, class: &str) {
+        self.tick(&class_of(abi, class));
+    }
+
+    fn tick_of_if(&mut self, abi: Abi, occurred: bool, class: &str) {
+        if occurred {
+            self.tick_of(abi, class);
         }
     }
 
@@ -121,41 +134,38 @@ impl Census {
             let (port, at) = (write.at / RING_BYTES, write.at % RING_BYTES);
             self.tick_if(at == REQ_EVENT, "guest wrote req_event");
             self.tick_if(at == RSP_PROD, "guest wrote rsp_prod");
-            if at < HEADER_BYTES || history.state(port) != State::Open {
-                continue;
+            if at >= HEADER_BYTES && history.state(port) == State::Open {
+                self.note_slot_write(history, port, page(rings, port), at);
             }
-            let taken = history.taken(port) as u32;
-            let slots_after = |index: u32| {
-                let slots = (at - HEADER_BYTES) / SLOT_BYTES;
-                (slots as u32).wrapping_sub(index) % SLOTS as u32
-            };
-            let in_flight = history.unfinished(port);
-            let over = slots_after(taken.wrapping_sub(in_flight)) < in_flight;
-            self.tick_if(over, "guest wrote over a slot in flight");
-            let waiting = read_u32(page(rings, port), REQ_PROD).wrapping_sub(taken);
-            let over = slots_after(taken) < waiting && waiting <= SLOTS as u32 - in_flight;
-            self.tick_if(over, "guest wrote over a waiting request");
         }
+    }
+
+    /// Counts what a guest writes at a byte behind the header.
+    fn note_slot_write(&mut self, history: &History, port: usize, page: &[u8], at: usize) {
+        let abi = self.books[port].abi;
+        let begins = |abi: Abi| (at - HEADER_BYTES) % abi.slot_bytes() == 0;
+        let astray = !begins(abi) && ABIS.into_iter().any(begins);
+        self.tick_of_if(abi, astray, "guest wrote at a slot of the other layout");
+        let slot = ((at - HEADER_BYTES) / abi.slot_bytes()) as u32;
+        if slot >= SLOTS as u32 {
+            return self.tick_of(abi, "guest wrote behind the last slot");
+        }
+        let taken = history.taken(port) as u32;
+        let slots_after = |index: u32| slot.wrapping_sub(index) % SLOTS as u32;
+        let in_flight = history.unfinished(port);
+        let over = slots_after(taken.wrapping_sub(in_flight)) < in_flight;
+        self.tick_of_if(abi, over, "guest wrote over a slot in flight");
+        let waiting = read_u32(page, REQ_PROD).wrapping_sub(taken);
+        let over = slots_after(taken) < waiting && waiting <= SLOTS as u32 - in_flight;
+        self.tick_of_if(abi, over, "guest wrote over a waiting request");
     }
 
     fn note_open(&mut self, history: &History, port: u32, sheet: &[u8], code: u32) {
         if code != 0 {
-            self.tick(&format!("open refused {code:02}"));
-            if let Some(why) = sheet_fault(sheet, code) {
-                self.tick(&why);
-            }
-            let broken = (port as usize) < PORTS && history.state(port as usize) == State::Broken;
-            self.tick_if(
-                broken && code == Refusal::NotClosed as u32,
-                "open refused 03, broken port",
-            );
-            let of_the_port = [Refusal::NoPort as u32, Refusal::NotClosed as u32];
-            if of_the_port.contains(&code) && read_sheet(sheet).is_err() {
-                self.tick(&format!("open refused {code:02}, sheet damaged too"));
-            }
-            return;
+            return self.note_refused_open(history, port, sheet, code);
         }
         self.tick("open done");
+        self.tick(&opened_class(sheet));
         if let Ok(disk) = read_sheet(sheet) {
             self.tick(if disk.writable {
                 "open done, mode w"
@@ -167,11 +177,30 @@ impl Census {
             self.tick_if(disk.sectors == u64::MAX, "open done, 2^64 - 1 sectors");
         }
         let books = &mut self.books[port as usize];
+        let abi = Abi::of_sheet(sheet);
+        let before = std::mem::replace(&mut books.abi, abi);
         books.disk = read_sheet(sheet).ok();
         books.openings += 1;
         books.completed_before = std::mem::take(&mut books.completed);
-        let again = books.openings > 1;
-        self.tick_if(again, "open done, reopened");
+        if books.openings > 1 {
+            self.tick_of(abi, &reopened_class(before));
+        }
+    }
+
+    fn note_refused_open(&mut self, history: &History, port: u32, sheet: &[u8], code: u32) {
+        self.tick(&format!("open refused {code:02}"));
+        for why in sheet_faults(sheet, code) {
+            self.tick(&why);
+        }
+        let broken = (port as usize) < PORTS && history.state(port as usize) == State::Broken;
+        self.tick_if(
+            broken && code == Refusal::NotClosed as u32,
+            "open refused 03, broken port",
+        );
+        let of_the_port = [Refusal::NoPort as u32, Refusal::NotClosed as u32];
+        if of_the_port.contains(&code) && read_sheet(sheet).is_err() {
+            self.tick(&format!("open refused {code:02}, sheet damaged too"));
+        }
     }
 
     fn note_close(&mut self, history: &History, port: u32, code: u32) {
@@ -192,6 +221,38 @@ impl fmt::Display for Census {
             writeln!(f, "{count:>9}  {class}")?;
         }
         Ok(())
+    }
+}
+
+/// A layout as classes name it.
+fn bits(abi: Abi) -> &'static str {
+    match abi {
+        Abi::Bits64 => "64-bit",
+        Abi::Bits32 => "32-bit",
+    }
+}
+
+/// A class of a port of one layout.
+fn class_of(abi: Abi, class: &str) -> String {
+    format!("{}: {class}", bits(abi))
+}
+
+/// The class of a port whose opening before had this layout.
+fn reopened_class(before: Abi) -> String {
+    format!("open done, reopened, {} before", bits(before))
+}
+
+/// The class of a turn that serves a port right after one that served a port of this layout.
+fn served_after_class(before: Abi) -> String {
+    format!("served right after a {} port", bits(before))
+}
+
+/// A word of an answer that is 0 or 1.
+fn yes_or_no(word: u64) -> &'static str {
+    if word == 1 {
+        "yes"
+    } else {
+        "no"
     }
 }
 

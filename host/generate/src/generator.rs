@@ -5,7 +5,7 @@ mod guests;
 
 use crate::{Call, Outcome, Random, Step, World};
 use history::State;
-use kernelharp::layout::{PORTS, SLOTS};
+use kernelharp::layout::{Abi, PORTS, SLOTS};
 use kernelharp::words::{kind, turn, TurnWords};
 use kernelharp::Completion;
 use second::{read_sheet, Disk, Operation};
@@ -36,6 +36,8 @@ struct Guest {
     manner: Manner,
     state: State,
     disk: Option<Disk>,
+    /// The layout of its last opening.
+    abi: Abi,
     /// The guest's own req_prod.
     produced: u32,
     /// Requests taken, as the host counts them.
@@ -53,6 +55,7 @@ impl Guest {
             manner,
             state: State::Closed,
             disk: None,
+            abi: Abi::default(),
             produced: 0,
             taken: 0,
             begun: Vec::new(),
@@ -147,6 +150,7 @@ impl Generator {
         let guest = &mut self.guests[port];
         guest.state = State::Open;
         guest.disk = read_sheet(sheet).ok();
+        guest.abi = Abi::of_sheet(sheet);
         guest.taken = 0;
         guest.begun.clear();
         guest.fresh = true;

@@ -1,7 +1,7 @@
 //! Guest requests: sound ones, and ones at fault at a check that is aimed at.
 
 use crate::Random;
-use kernelharp::layout::{EXTENTS, SLOT_BYTES};
+use kernelharp::layout::{Abi, EXTENTS};
 use second::{Disk, Operation};
 
 const READ: u8 = Operation::Read as u8;
@@ -41,19 +41,21 @@ impl Draft {
     }
 }
 
-/// A request for a disk, at fault in about `faulty` of a hundred cases.
+/// A request for a disk, in the bytes of a layout's slot, at fault in about `faulty` of a hundred
+/// cases.
 pub fn any_request(
     random: &mut Random,
+    abi: Abi,
     disk: &Disk,
     grants: &[u8],
     faulty: u64,
-) -> [u8; SLOT_BYTES] {
+) -> Vec<u8> {
     if !random.chance(faulty) {
         let draft = sound(random, disk, grants);
-        return encode(random, &draft);
+        return encode(random, abi, &draft);
     }
     if random.chance(5) {
-        return noise(random);
+        return noise(random, abi);
     }
     let number = 21 + random.below(9);
     let mut draft = faulty_operation(random, number, disk, grants);
@@ -63,13 +65,19 @@ pub fn any_request(
         let second = 25 + random.below(5);
         spoil(random, second, &mut draft, disk, grants);
     }
-    encode(random, &draft)
+    encode(random, abi, &draft)
+}
+
+/// A slot of random bytes.
+fn rubbish(random: &mut Random, abi: Abi) -> Vec<u8> {
+    let mut slot = vec![0; abi.slot_bytes()];
+    random.fill(&mut slot);
+    slot
 }
 
 /// Random bytes with a likely operation.
-fn noise(random: &mut Random) -> [u8; SLOT_BYTES] {
-    let mut slot = [0; SLOT_BYTES];
-    random.fill(&mut slot);
+fn noise(random: &mut Random, abi: Abi) -> Vec<u8> {
+    let mut slot = rubbish(random, abi);
     if random.chance(80) {
         slot[0] = random.below(7) as u8;
         slot[1] = random.below(14) as u8;
@@ -332,20 +340,20 @@ fn spoil_alignment(random: &mut Random, draft: &mut Draft, disk: &Disk) {
 }
 
 /// Puts a draft into a slot; every byte that has no meaning is random.
-fn encode(random: &mut Random, draft: &Draft) -> [u8; SLOT_BYTES] {
-    let mut slot = [0; SLOT_BYTES];
-    random.fill(&mut slot);
+fn encode(random: &mut Random, abi: Abi, draft: &Draft) -> Vec<u8> {
+    let mut slot = rubbish(random, abi);
     slot[0] = draft.operation;
     slot[1] = draft.count_or_flag;
     // Few ids, so that pairs repeat.
     if random.chance(50) {
-        slot[8..16].copy_from_slice(&random.below(8).to_le_bytes());
+        slot[abi.id_at()..][..8].copy_from_slice(&random.below(8).to_le_bytes());
     }
-    slot[16..24].copy_from_slice(&draft.start.to_le_bytes());
+    slot[abi.start_at()..][..8].copy_from_slice(&draft.start.to_le_bytes());
+    let body = &mut slot[abi.segments_at()..];
     if draft.operation == DISCARD {
-        slot[24..32].copy_from_slice(&draft.discard_count.to_le_bytes());
+        body[..8].copy_from_slice(&draft.discard_count.to_le_bytes());
     }
-    for (place, segment) in slot[24..].chunks_exact_mut(8).zip(&draft.segments) {
+    for (place, segment) in body.chunks_exact_mut(8).zip(&draft.segments) {
         place[0..4].copy_from_slice(&segment.frame.to_le_bytes());
         place[4] = segment.first;
         place[5] = segment.last;

@@ -1,6 +1,23 @@
 //! Node sheets: sound ones, and ones damaged in every way that section 7 names.
 
 use crate::Random;
+use kernelharp::layout::Abi;
+
+/// Texts that are none of node 8, though near to one.
+pub const NEAR_PROTOCOLS: [&str; 12] = [
+    "",
+    "x86_64-ab",
+    "x86_64-abi ",
+    "X86_64-abi",
+    "x86_32-ab",
+    "x86_32-abi ",
+    "X86_32-abi",
+    "x86_16-abi",
+    "x86_31-abi",
+    "x86_34-abi",
+    "x86_62-abi",
+    "x86_32-abi\0",
+];
 
 /// One entry before it is put into bytes.
 struct Entry {
@@ -64,8 +81,10 @@ fn sound_entries(random: &mut Random) -> Vec<Entry> {
     let size = random.pick(&["512", "512", "1024", "2048", "4096"]);
     entries.push(Entry::new(6, size.as_bytes()));
     entries.push(Entry::new(7, sectors(random).to_string().as_bytes()));
-    if random.chance(40) {
-        entries.push(Entry::new(8, b"x86_64-abi"));
+    // As many ports of the one layout as of the other, one half of the 64-bit ones without the node.
+    if random.chance(75) {
+        let abi = random.pick(&[Abi::Bits64, Abi::Bits32, Abi::Bits32]);
+        entries.push(Entry::new(8, abi.protocol().as_bytes()));
     }
     if random.chance(40) {
         entries.push(Entry::new(9, b"0"));
@@ -147,7 +166,7 @@ fn spoil_text(random: &mut Random, entries: &mut Vec<Entry>) {
             "018446744073709551616",
             "1844674407370955161x",
         ],
-        8 => &["", "x86_32-abi", "x86_64-ab", "x86_64-abi ", "X86_64-abi"],
+        8 => &NEAR_PROTOCOLS,
         _ => &["", "00", "+0", "-0", "0 ", "a", "01"],
     };
     let text = if matches!(node, 6 | 7 | 9) && random.chance(10) {

@@ -1,10 +1,7 @@
 //! What is counted of a port since its opening.
 
-use crate::page::{slot_at, u64_at, SLOTS};
+use crate::page::{Layout, Pair, SLOTS};
 use std::collections::HashMap;
-
-/// The (id, operation) pair of a request or of an answer.
-type Pair = (u64, u8);
 
 /// A request that was taken and has no response yet (rule 12.16).
 #[derive(Clone, Debug)]
@@ -16,6 +13,7 @@ struct Unfinished {
 /// What is counted of a port since its opening.
 #[derive(Debug, Default)]
 pub struct Books {
+    layout: Layout,
     pub taken: u64,
     answered: u64,
     /// The unfinished request of each tag that a start named. One place per tag is enough: a start
@@ -27,6 +25,14 @@ pub struct Books {
 }
 
 impl Books {
+    /// Those of an opening.
+    pub fn new(layout: Layout) -> Books {
+        Books {
+            layout,
+            ..Books::default()
+        }
+    }
+
     /// C, by rule 12.27.
     pub fn taken_index(&self) -> u32 {
         self.taken as u32
@@ -66,8 +72,7 @@ impl Books {
 
     /// Rule 12.12: a request's pair, from the page lent.
     pub fn take(&mut self, page: &[u8]) -> Pair {
-        let at = slot_at(self.taken_index());
-        let pair = (u64_at(page, at + 8), page[at]);
+        let pair = self.layout.request_pair(page, self.taken_index());
         self.taken += 1;
         self.weigh(pair, 1);
         pair
@@ -75,8 +80,7 @@ impl Books {
 
     /// Rule 12.15: a response's pair, from the page left.
     pub fn answer(&mut self, page: &[u8]) {
-        let at = slot_at(self.answered_index());
-        let pair = (u64_at(page, at), page[at + 8]);
+        let pair = self.layout.response_pair(page, self.answered_index());
         self.answered += 1;
         self.weigh(pair, -1);
     }

@@ -16,8 +16,8 @@ pub use event::Event;
 
 use books::Books;
 use page::{
-    kind, page, turn, u32_at, DONE_PORT, DONE_WORDS, GRANTS_BYTES, RING_BYTES, PORTS, REQ_EVENT,
-    REQ_PROD, RINGS_BYTES, SLOTS, TURN_WORDS,
+    kind, page, turn, u32_at, DONE_PORT, DONE_WORDS, GRANTS_BYTES, PORTS, REQ_EVENT, REQ_PROD,
+    RINGS_BYTES, RING_BYTES, SLOTS, TURN_WORDS,
 };
 use refusal::{IN_FLIGHT, IS_CLOSED, NONE, NOT_BUSY, NOT_CLOSED, NO_PORT, WRONG_LENGTH};
 use wait::Wait;
@@ -102,7 +102,7 @@ impl History {
             return Err(format!("the call gave {code}, due was {due}"));
         }
         match *event {
-            Event::Open { port, .. } if code == NONE => self.opened(port as usize),
+            Event::Open { port, sheet, .. } if code == NONE => self.opened(port as usize, sheet),
             Event::Close { port, .. } if code == NONE => self.closed(port as usize),
             Event::Turn {
                 lent, left, answer, ..
@@ -151,10 +151,10 @@ impl History {
         }
     }
 
-    /// An opening begins new books.
-    fn opened(&mut self, port: usize) -> Result<(), String> {
+    /// An opening begins new books, in the layout that its sheet asks for.
+    fn opened(&mut self, port: usize, sheet: &[u8]) -> Result<(), String> {
         self.ports[port].state = State::Open;
-        self.ports[port].books = Books::default();
+        self.ports[port].books = Books::new(sheet::layout(sheet));
         Ok(())
     }
 

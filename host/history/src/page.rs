@@ -27,6 +27,9 @@ pub mod kind {
     pub const OVERRUN: u64 = 3;
 }
 
+/// The (id, operation) pair of a request or of an answer.
+pub type Pair = (u64, u8);
+
 /// The word of a completion's answer that names the port.
 pub const DONE_PORT: usize = 0;
 
@@ -36,9 +39,39 @@ pub fn page(rings: &[u8], port: usize) -> &[u8] {
     pages.nth(port).expect("a page a port")
 }
 
-/// Where the slot of an index begins.
-pub fn slot_at(index: u32) -> usize {
-    64 + 112 * (index as usize % SLOTS)
+/// How the records of a port lie in its page: by the node protocol of its last opening.
+#[derive(Clone, Copy, Debug, Default, PartialEq, Eq)]
+pub enum Layout {
+    #[default]
+    Bits64,
+    Bits32,
+}
+
+impl Layout {
+    /// Where the slot of an index begins.
+    fn slot_at(self, index: u32) -> usize {
+        let slot_bytes = match self {
+            Layout::Bits64 => 112,
+            Layout::Bits32 => 108,
+        };
+        64 + slot_bytes * (index as usize % SLOTS)
+    }
+
+    /// The pair of a request, which has its id behind padding of the layout's own.
+    pub fn request_pair(self, page: &[u8], index: u32) -> Pair {
+        let at = self.slot_at(index);
+        let id = match self {
+            Layout::Bits64 => at + 8,
+            Layout::Bits32 => at + 4,
+        };
+        (u64_at(page, id), page[at])
+    }
+
+    /// The pair of a response, in the same bytes of the slot for both layouts.
+    pub fn response_pair(self, page: &[u8], index: u32) -> Pair {
+        let at = self.slot_at(index);
+        (u64_at(page, at), page[at + 8])
+    }
 }
 
 /// A little-endian number.
@@ -47,7 +80,7 @@ pub fn u32_at(bytes: &[u8], at: usize) -> u32 {
 }
 
 /// A little-endian number.
-pub fn u64_at(bytes: &[u8], at: usize) -> u64 {
+fn u64_at(bytes: &[u8], at: usize) -> u64 {
     number(&bytes[at..at + 8])
 }
 

@@ -1,11 +1,16 @@
-//! Whether a node sheet opens a port, and what it is refused with if not (rules 7.11 to 7.15). What it
-//! says of the disk is no matter of demand 3.
+//! Whether a node sheet opens a port, and what it is refused with if not (rules 7.11 to 7.15). Of what
+//! it says, demand 3 asks for the layout alone: where a pair is read depends on it.
 
+use crate::page::Layout;
 use crate::refusal::{NONE, SHEET_MISSING, SHEET_NODES, SHEET_NUMBER, SHEET_SHAPE, SHEET_TEXT};
 use std::ops::Range;
 
 /// The greatest number of sectors, as it is written.
 const MOST_SECTORS: &[u8] = b"18446744073709551615";
+
+/// The texts of node 8.
+const BITS_64: &[u8] = b"x86_64-abi";
+const BITS_32: &[u8] = b"x86_32-abi";
 
 /// The refusal that a sheet is due, in the order of rule 3.10.
 pub fn refusal_due(sheet: &[u8]) -> u32 {
@@ -29,6 +34,17 @@ pub fn refusal_due(sheet: &[u8]) -> u32 {
         NONE
     } else {
         SHEET_MISSING
+    }
+}
+
+/// The layout of a sheet that opens a port (rule 3.5).
+pub fn layout(sheet: &[u8]) -> Layout {
+    let bodies = bodies(sheet).unwrap_or_default();
+    let mut protocol = bodies.into_iter().filter(|(node, _)| *node == 8);
+    if protocol.any(|(_, body)| sheet[body] == *BITS_32) {
+        Layout::Bits32
+    } else {
+        Layout::Bits64
     }
 }
 
@@ -58,7 +74,7 @@ fn body_fault(node: u8, body: &[u8]) -> u32 {
         1 => &[b"r", b"w"],
         2..=5 => &[b"0", b"1"],
         6 => &[b"512", b"1024", b"2048", b"4096"],
-        8 => &[b"x86_64-abi"],
+        8 => &[BITS_64, BITS_32],
         9 => &[b"0"],
         _ => &[],
     };
@@ -128,6 +144,26 @@ mod tests {
         }
         assert_eq!(refusal_due(&[0]), SHEET_MISSING);
         assert_eq!(refusal_due(b"\x01\x09\0\x01\x000"), SHEET_MISSING);
+    }
+
+    #[test]
+    fn layouts() {
+        let with_protocol = |text: &str| {
+            let head = b"\x04\x01\0\x01\0\x06\0\x03\0\x07\0\x01\0\x08\0";
+            let length = (text.len() as u16).to_le_bytes();
+            [&head[..], &length, b"w5129", text.as_bytes()].concat()
+        };
+        for (text, due) in [
+            ("x86_64-abi", Layout::Bits64),
+            ("x86_32-abi", Layout::Bits32),
+        ] {
+            let sheet = with_protocol(text);
+            assert_eq!((refusal_due(&sheet), layout(&sheet)), (NONE, due));
+        }
+        assert_eq!(layout(SHEET_OF_21), Layout::Bits64);
+        for text in ["", "x86_32-ab", "x86_32-abi ", "X86_32-abi", "x86_31-abi"] {
+            assert_eq!(refusal_due(&with_protocol(text)), SHEET_TEXT, "{text:?}");
+        }
     }
 
     #[test]

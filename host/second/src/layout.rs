@@ -1,4 +1,4 @@
-//! Sizes and places (sections 1 and 2), and numbers in bytes (rule 2.1).
+//! Sizes and places (sections 1 and 2), a record's by its layout, and numbers in bytes (rule 2.1).
 
 /// Rule 1.1.
 pub const PORTS: usize = 8;
@@ -17,15 +17,45 @@ pub const RSP_EVENT: usize = 12;
 
 /// Rule 2.3; a port has as many tags (rule 4.7).
 pub const SLOTS: usize = 32;
-pub const SLOT_BYTES: usize = 112;
-/// Rule 2.10.
-pub const RESPONSE_BYTES: usize = 16;
 /// Rule 2.16.
 pub const EXTENTS: usize = 11;
 
-/// Rule 2.4.
-pub fn slot_at(index: u32) -> usize {
-    64 + SLOT_BYTES * (index as usize % SLOTS)
+/// What the two layouts of a port's records differ in: nothing but these numbers.
+#[derive(Clone, Copy, Debug, PartialEq, Eq)]
+pub struct Layout {
+    /// Rule 2.3.
+    pub(crate) slot_bytes: usize,
+    /// Rule 2.5: where a request has its id, its start, and its segments or a discard's count.
+    pub(crate) id: usize,
+    pub(crate) start: usize,
+    pub(crate) body: usize,
+    /// Rule 2.10.
+    pub(crate) response_bytes: usize,
+}
+
+impl Layout {
+    /// "x86_64-abi"
+    pub const BITS_64: Layout = Layout {
+        slot_bytes: 112,
+        id: 8,
+        start: 16,
+        body: 24,
+        response_bytes: 16,
+    };
+
+    /// "x86_32-abi"
+    pub const BITS_32: Layout = Layout {
+        slot_bytes: 108,
+        id: 4,
+        start: 12,
+        body: 20,
+        response_bytes: 12,
+    };
+
+    /// Rule 2.4.
+    pub(crate) fn slot_at(&self, index: u32) -> usize {
+        64 + self.slot_bytes * (index as usize % SLOTS)
+    }
 }
 
 /// Rule 1.3.

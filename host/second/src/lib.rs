@@ -17,6 +17,7 @@ mod terms;
 
 pub use answers::{Done, Extent, Plan, Turned};
 pub use backend::{Backend, Completion};
+pub use layout::Layout;
 pub use ring::{backlog, response_bytes, Backlog};
 pub use sheet::{read_sheet, Disk};
 pub use terms::{Operation, Reason, Refusal, Status};

@@ -1,6 +1,6 @@
 //! A request as it lies in a slot (rules 2.5 to 2.9), copied once.
 
-use crate::layout::{read_u32, read_u64, slot_at, EXTENTS, SLOT_BYTES};
+use crate::layout::{read_u32, read_u64, Layout, EXTENTS};
 
 /// One segment of a request (rule 2.6).
 pub struct Segment {
@@ -29,7 +29,7 @@ impl Segment {
     }
 }
 
-/// The 112 bytes of a slot, taken out of the page once.
+/// The bytes of a slot, taken out of the page once.
 pub struct Request {
     pub operation: u8,
     /// n, or a discard's flag.
@@ -42,17 +42,15 @@ pub struct Request {
 
 impl Request {
     /// Rule 1.8: the slot is copied, and from then on the copy is read.
-    pub fn take(page: &[u8], index: u32) -> Request {
-        let at = slot_at(index);
-        let mut slot = [0; SLOT_BYTES];
-        slot.copy_from_slice(&page[at..at + SLOT_BYTES]);
+    pub fn take(page: &[u8], layout: &Layout, index: u32) -> Request {
+        let slot = page[layout.slot_at(index)..][..layout.slot_bytes].to_vec();
         let mut body = [0; 8 * EXTENTS];
-        body.copy_from_slice(&slot[24..]);
+        body.copy_from_slice(&slot[layout.body..]);
         Request {
             operation: slot[0],
             count_or_flag: slot[1],
-            id: read_u64(&slot, 8),
-            start: read_u64(&slot, 16),
+            id: read_u64(&slot, layout.id),
+            start: read_u64(&slot, layout.start),
             body,
         }
     }

@@ -2,9 +2,7 @@
 
 use crate::answers::{Plan, Turned};
 use crate::checks::{judge, Work};
-use crate::layout::{
-    read_u32, slot_at, write_u32, REQ_PROD, RESPONSE_BYTES, RSP_EVENT, RSP_PROD, SLOTS,
-};
+use crate::layout::{read_u32, write_u32, REQ_PROD, RSP_EVENT, RSP_PROD, SLOTS};
 use crate::request::Request;
 use crate::ring::{backlog, response_bytes, Backlog};
 use crate::sheet::Disk;
@@ -76,7 +74,7 @@ impl Session {
 
     /// Rules 5.15 to 5.19: a request is taken and judged.
     pub fn serve(&mut self, port: u32, page: &mut [u8], grants: &[u8]) -> Turned {
-        let request = Request::take(page, self.taken);
+        let request = Request::take(page, &self.disk.layout, self.taken);
         let serial = self.taken;
         self.taken = serial.wrapping_add(1);
         match judge(&request, &self.disk, grants) {
@@ -121,8 +119,9 @@ impl Session {
 
     /// Rules 6.1 to 6.5: the response in its slot, rsp_prod, and whether to notify.
     pub fn respond(&mut self, page: &mut [u8], id: u64, operation: u8, status: Status) -> bool {
-        let at = slot_at(self.answered);
-        page[at..at + RESPONSE_BYTES].copy_from_slice(&response_bytes(id, operation, status));
+        let layout = &self.disk.layout;
+        let response = response_bytes(layout, id, operation, status);
+        page[layout.slot_at(self.answered)..][..response.len()].copy_from_slice(&response);
         self.answered = self.answered.wrapping_add(1);
         write_u32(page, RSP_PROD, self.answered);
         read_u32(page, RSP_EVENT) == self.answered

@@ -1,5 +1,6 @@
 //! Node sheets (section 3): what a sheet says of a disk, or its refusal.
 
+use crate::layout::Layout;
 use crate::terms::{Operation, Refusal};
 
 /// What a node sheet says about a port's disk.
@@ -19,6 +20,8 @@ pub struct Disk {
     pub sector_size: u64,
     /// sectors, of 512 bytes each
     pub sectors: u64,
+    /// protocol: how the guest's records lie in its page
+    pub layout: Layout,
 }
 
 impl Disk {
@@ -86,6 +89,7 @@ fn nodes_rise(entries: &[Entry]) -> bool {
 fn read_bodies(entries: &[Entry]) -> Result<Disk, Refusal> {
     let (mut mode, mut sector_size, mut sectors) = (None, None, None);
     let (mut barrier, mut flush, mut discard, mut secure) = (false, false, false, false);
+    let mut layout = Layout::BITS_64;
     for entry in entries {
         match entry.node {
             1 => mode = Some(read_choice(entry.body, b"r", b"w")?),
@@ -95,7 +99,7 @@ fn read_bodies(entries: &[Entry]) -> Result<Disk, Refusal> {
             5 => secure = read_choice(entry.body, b"0", b"1")?,
             6 => sector_size = Some(read_sector_size(entry.body)?),
             7 => sectors = Some(read_number(entry.body)?.ok_or(Refusal::SheetNumber)?),
-            8 => read_protocol(entry.body)?,
+            8 => layout = read_protocol(entry.body)?,
             _ => read_ring_page_order(entry.body)?,
         }
     }
@@ -107,6 +111,7 @@ fn read_bodies(entries: &[Entry]) -> Result<Disk, Refusal> {
         secure,
         sector_size: sector_size.ok_or(Refusal::SheetMissing)?,
         sectors: sectors.ok_or(Refusal::SheetMissing)?,
+        layout,
     })
 }
 
@@ -129,12 +134,12 @@ fn read_sector_size(body: &[u8]) -> Result<u64, Refusal> {
     }
 }
 
-/// Node 8: the one protocol.
-fn read_protocol(body: &[u8]) -> Result<(), Refusal> {
-    if body == b"x86_64-abi" {
-        Ok(())
-    } else {
-        Err(Refusal::SheetText)
+/// Node 8: one of two texts.
+fn read_protocol(body: &[u8]) -> Result<Layout, Refusal> {
+    match body {
+        b"x86_64-abi" => Ok(Layout::BITS_64),
+        b"x86_32-abi" => Ok(Layout::BITS_32),
+        _ => Err(Refusal::SheetText),
     }
 }
 

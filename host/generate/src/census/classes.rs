@@ -1,6 +1,9 @@
 //! What a long run should show.
 
-use super::sheets::{body_class, NUMBER, TEXT};
+use super::sheets::{body_class, opened_by, protocol_fault, NUMBER, TEXT};
+use super::{class_of, reopened_class, served_after_class};
+use crate::sheets::NEAR_PROTOCOLS;
+use crate::ABIS;
 
 /// The reasons that each operation can meet.
 const REASONS: [(u8, &[u64]); 5] = [
@@ -31,6 +34,21 @@ pub fn expected_classes() -> Vec<String> {
     for size in [512, 1024, 2048, 4096] {
         classes.push(format!("open done, sector-size {size}"));
     }
+    classes.extend((1..=9).map(|node| body_class(TEXT, node)));
+    classes.extend([6, 7, 9].map(|node| body_class(NUMBER, node)));
+    classes.extend(NEAR_PROTOCOLS.map(protocol_fault));
+    classes.push(opened_by(None));
+    for abi in ABIS {
+        classes.push(opened_by(Some(abi.protocol())));
+        let port_classes = port_classes();
+        classes.extend(port_classes.iter().map(|class| class_of(abi, class)));
+    }
+    classes
+}
+
+/// The classes that ports of each layout should show.
+fn port_classes() -> Vec<String> {
+    let mut classes: Vec<String> = PORT_CLASSES.iter().map(|&name| name.into()).collect();
     for (operation, reasons) in REASONS {
         classes.push(format!("started, operation {operation}"));
         classes.push(format!("completed, operation {operation}"));
@@ -39,44 +57,19 @@ pub fn expected_classes() -> Vec<String> {
         }
     }
     classes.extend((21..=29).map(|reason| format!("answered {reason}")));
-    classes.extend((1..=9).map(|node| body_class(TEXT, node)));
-    classes.extend([6, 7, 9].map(|node| body_class(NUMBER, node)));
+    classes.extend(ABIS.map(reopened_class));
+    classes.extend(ABIS.map(served_after_class));
     classes
 }
 
 const PLAIN_CLASSES: &[&str] = &[
-    "answered",
-    "answered 21, operation 4",
-    "answered 27, a frame above 1023",
-    "answered 27, every frame granted for reading",
-    "answered 28, around 2^64",
-    "answered, notify no",
-    "answered, notify yes",
-    "answered, status -1",
-    "answered, status -2",
     "close done",
     "close done, broken port",
     "complete refused 01, port above 7 too",
-    "complete refused 06, another serial",
-    "complete refused 06, doubled",
-    "complete refused 06, of an earlier opening",
-    "complete refused 06, tag above 31",
-    "complete refused 06, tag not busy",
-    "completed",
-    "completed, broken port",
-    "completed, named in an earlier opening too",
-    "completed, notify no",
-    "completed, notify yes",
-    "completed, status -0",
-    "completed, status -1",
-    "completed, status -2",
     "guest wrote between calls",
-    "guest wrote over a slot in flight",
-    "guest wrote over a waiting request",
     "guest wrote req_event",
     "guest wrote rsp_prod",
     "idle",
-    "idle, 32 in flight on an open port",
     "idle, some port broken",
     "idle, some port open",
     "open done",
@@ -84,20 +77,9 @@ const PLAIN_CLASSES: &[&str] = &[
     "open done, 2^64 - 1 sectors",
     "open done, mode r",
     "open done, mode w",
-    "open done, reopened",
     "open refused 02, sheet damaged too",
     "open refused 03, broken port",
     "open refused 03, sheet damaged too",
-    "overrun",
-    "overrun, 32 in flight",
-    "overrun, behind",
-    "overrun, by one",
-    "overrun, far ahead",
-    "overrun, some in flight",
-    "served at the line",
-    "served beyond request 1000",
-    "served beyond slot 31",
-    "served with 31 in flight",
     "sheet cut within its bodies",
     "sheet cut within its table",
     "sheet empty",
@@ -111,8 +93,54 @@ const PLAIN_CLASSES: &[&str] = &[
     "sheet without node 1",
     "sheet without node 6",
     "sheet without node 7",
+    "turn refused 01",
+    "turn refused 01, rings and grants",
+    "turn with ports of both layouts open",
+];
+
+const PORT_CLASSES: &[&str] = &[
+    "answered",
+    "answered 21, operation 4",
+    "answered 27, a frame above 1023",
+    "answered 27, every frame granted for reading",
+    "answered 28, around 2^64",
+    "answered, notify no",
+    "answered, notify yes",
+    "answered, status -1",
+    "answered, status -2",
+    "complete refused 06, another serial",
+    "complete refused 06, doubled",
+    "complete refused 06, of an earlier opening",
+    "complete refused 06, tag above 31",
+    "complete refused 06, tag not busy",
+    "completed",
+    "completed, broken port",
+    "completed, named in an earlier opening too",
+    "completed, notify no",
+    "completed, notify yes",
+    "completed, slot 31",
+    "completed, status -0",
+    "completed, status -1",
+    "completed, status -2",
+    "guest wrote at a slot of the other layout",
+    "guest wrote behind the last slot",
+    "guest wrote over a slot in flight",
+    "guest wrote over a waiting request",
+    "idle, 32 in flight",
+    "overrun",
+    "overrun, 32 in flight",
+    "overrun, behind",
+    "overrun, by one",
+    "overrun, far ahead",
+    "overrun, some in flight",
+    "served at the line",
+    "served beyond request 1000",
+    "served beyond slot 31",
+    "served from slot 31",
+    "served with 31 in flight",
     "started",
     "started, 11 extents",
+    "started, discard above 2^32 sectors",
     "started, empty barrier",
     "started, frame 1023",
     "started, secure discard",
@@ -120,6 +148,4 @@ const PLAIN_CLASSES: &[&str] = &[
     "started, tag come back",
     "started, total aligned though an extent is not",
     "started, up to the last sector",
-    "turn refused 01",
-    "turn refused 01, rings and grants",
 ];

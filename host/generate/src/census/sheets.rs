@@ -1,5 +1,6 @@
-//! A closer word on refused sheets.
+//! A closer word on sheets: why one was refused, and by which text another's layout was chosen.
 
+use crate::sheets::NEAR_PROTOCOLS;
 use second::{read_sheet, Refusal};
 
 const SHAPE: u32 = Refusal::SheetShape as u32;
@@ -8,18 +9,22 @@ pub const TEXT: u32 = Refusal::SheetText as u32;
 pub const NUMBER: u32 = Refusal::SheetNumber as u32;
 const MISSING: u32 = Refusal::SheetMissing as u32;
 
+/// The node of the protocol.
+const PROTOCOL: u8 = 8;
+
 /// What was wrong with a sheet, where the number leaves it open.
-pub fn sheet_fault(sheet: &[u8], code: u32) -> Option<String> {
+pub fn sheet_faults(sheet: &[u8], code: u32) -> Vec<String> {
     match code {
-        SHAPE => Some(shape_fault(sheet).into()),
-        NODES => Some(nodes_fault(&nodes(sheet)).into()),
-        TEXT | NUMBER => body_fault(sheet, code),
+        SHAPE => vec![shape_fault(sheet).into()],
+        NODES => vec![nodes_fault(&nodes(sheet)).into()],
+        TEXT | NUMBER => body_faults(sheet, code),
         MISSING => {
             let nodes = nodes(sheet);
             let missing = [1, 6, 7].into_iter().find(|node| !nodes.contains(node));
-            missing.map(|node| format!("sheet without node {node}"))
+            let class = missing.map(|node| format!("sheet without node {node}"));
+            class.into_iter().collect()
         }
-        _ => None,
+        _ => Vec::new(),
     }
 }
 
@@ -36,12 +41,18 @@ fn nodes_fault(nodes: &[u8]) -> &'static str {
 }
 
 fn nodes(sheet: &[u8]) -> Vec<u8> {
-    let table = &sheet[1..];
-    table
-        .chunks(4)
-        .take(usize::from(sheet[0]))
-        .map(|line| line[0])
-        .collect()
+    entries(sheet).map(|(line, _)| line[0]).collect()
+}
+
+/// Each entry of a sheet of the right shape: its line in the table, and its body.
+fn entries(sheet: &[u8]) -> impl Iterator<Item = (&[u8], &[u8])> {
+    let (table, mut bodies) = sheet[1..].split_at(4 * usize::from(sheet[0]));
+    table.chunks(4).map(move |line| {
+        let length = usize::from(line[2]) + 256 * usize::from(line[3]);
+        let (body, rest) = bodies.split_at(length);
+        bodies = rest;
+        (line, body)
+    })
 }
 
 fn shape_fault(sheet: &[u8]) -> &'static str {
@@ -68,26 +79,42 @@ fn shape_fault(sheet: &[u8]) -> &'static str {
     }
 }
 
-/// Which body a sheet was refused for: the first that is refused so in a sheet of its own.
-fn body_fault(sheet: &[u8], code: u32) -> Option<String> {
-    let entries = usize::from(sheet[0]);
-    let (table, mut bodies) = sheet[1..].split_at(4 * entries);
-    for line in table.chunks(4) {
-        let length = usize::from(line[2]) + 256 * usize::from(line[3]);
-        let (body, rest) = bodies.split_at(length);
-        bodies = rest;
-        let mut alone = vec![1];
-        alone.extend_from_slice(line);
-        alone.extend_from_slice(body);
-        let at_fault = read_sheet(&alone).is_err_and(|refusal| refusal as u32 == code);
-        if at_fault {
-            return Some(body_class(code, line[0]));
-        }
-    }
-    None
+/// Which body a sheet was refused for: the first that is refused so in a sheet of its own. Of the
+/// protocol, also by which text.
+fn body_faults(sheet: &[u8], code: u32) -> Vec<String> {
+    let at_fault = |(line, body): &(&[u8], &[u8])| {
+        let alone = [&[1], *line, *body].concat();
+        read_sheet(&alone).is_err_and(|refusal| refusal as u32 == code)
+    };
+    let Some((line, body)) = entries(sheet).find(at_fault) else {
+        return Vec::new();
+    };
+    let near = NEAR_PROTOCOLS.into_iter().filter(|text| {
+        // Any other text is noise, and of no class.
+        line[0] == PROTOCOL && text.as_bytes() == body
+    });
+    let class = body_class(code, line[0]);
+    near.map(protocol_fault).chain([class]).collect()
 }
 
 /// The class of a sheet that is refused for a node's body.
 pub fn body_class(code: u32, node: u8) -> String {
     format!("sheet refused {code}, node {node}")
+}
+
+/// The class of a sheet that is refused for this text of node 8.
+pub fn protocol_fault(text: &str) -> String {
+    format!("{}: {text:?}", body_class(TEXT, PROTOCOL))
+}
+
+/// The class of a sheet that opened a port, by its node 8.
+pub fn opened_class(sheet: &[u8]) -> String {
+    let protocol = entries(sheet).find(|(line, _)| line[0] == PROTOCOL);
+    let text = protocol.map(|(_, body)| String::from_utf8_lossy(body).into_owned());
+    opened_by(text.as_deref())
+}
+
+/// The same, by the node's text or its absence.
+pub fn opened_by(protocol: Option<&str>) -> String {
+    format!("open done, protocol {}", protocol.unwrap_or("absent"))
 }

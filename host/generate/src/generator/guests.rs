@@ -2,11 +2,11 @@
 
 use super::{Generator, Guest, Manner, Pace};
 use crate::requests::any_request;
-use crate::{Buffer, World, Write};
+use crate::{Buffer, World, Write, ABIS};
 use history::State;
 use kernelharp::layout::{
-    page, read_u32, slot_at, GRANTS_BYTES, HEADER_BYTES, RING_BYTES, PORTS, PORT_GRANTS, REQ_EVENT,
-    REQ_PROD, RSP_EVENT, RSP_PROD, SLOTS,
+    page, read_u32, Abi, GRANTS_BYTES, HEADER_BYTES, PORTS, PORT_GRANTS, REQ_EVENT, REQ_PROD,
+    RING_BYTES, RSP_EVENT, RSP_PROD, SLOTS,
 };
 
 impl Generator {
@@ -109,15 +109,26 @@ impl Generator {
         faulty: u64,
         writes: &mut Vec<Write>,
     ) {
+        let abi = self.layout_used(port);
         let Guest { disk, produced, .. } = &mut self.guests[port];
         let Some(disk) = disk else { return };
         let grants = &world.grants()[PORT_GRANTS * port..][..PORT_GRANTS];
         for _ in 0..amount {
-            let slot = any_request(&mut self.random, disk, grants, faulty);
-            write_page(writes, port, slot_at(*produced), &slot);
+            let slot = any_request(&mut self.random, abi, disk, grants, faulty);
+            write_page(writes, port, abi.slot_at(*produced), &slot);
             *produced = produced.wrapping_add(1);
         }
         write_page(writes, port, REQ_PROD, &produced.to_le_bytes());
+    }
+
+    /// The layout that requests are written in. A hostile guest may use the one that its port has not.
+    fn layout_used(&mut self, port: usize) -> Abi {
+        let guest = &self.guests[port];
+        if guest.manner == Manner::Hostile && self.random.chance(20) {
+            self.random.pick(&ABIS)
+        } else {
+            guest.abi
+        }
     }
 
     /// Sets req_prod to something at or beyond the line: just full, one too many, behind, far
@@ -139,12 +150,14 @@ impl Generator {
         write_page(writes, port, REQ_PROD, &produced.to_le_bytes());
     }
 
-    /// Writes over requests already taken, over the backend's own header words, or anywhere.
+    /// Writes over requests already taken, by either layout's places, over the backend's own header
+    /// words, or anywhere.
     fn scribble(&mut self, port: usize, writes: &mut Vec<Write>) {
+        let abi = self.random.pick(&ABIS);
         let at = match self.random.index(4) {
-            0 => slot_at(self.random.word() as u32),
+            0 => abi.slot_at(self.random.word() as u32),
             1 => self.random.pick(&[REQ_EVENT, RSP_PROD, RSP_EVENT, 16]),
-            2 => slot_at(self.guests[port].taken.wrapping_sub(1)),
+            2 => abi.slot_at(self.guests[port].taken.wrapping_sub(1)),
             _ => HEADER_BYTES + self.random.index(RING_BYTES - HEADER_BYTES),
         };
         let length = if at < HEADER_BYTES { 4 } else { 24 };
