@@ -1,7 +1,7 @@
 //! The eight guests: what each is and what disk it has.
 
 use kernelharp::layout::PORTS;
-use kernelharp::Sheet;
+use kernelharp::{Abi, Sheet};
 use std::ops::Range;
 
 /// What a guest does with its disk.
@@ -55,6 +55,14 @@ impl Profile {
             Role::Plain | Role::Hostile => 0,
         }
     }
+
+    /// The layout of its ring, as the report has it: the hostile guest changes it.
+    pub fn layout(&self) -> String {
+        match self.role {
+            Role::Hostile => "both".to_string(),
+            Role::Board { .. } | Role::Plain => self.sheet.abi.to_string(),
+        }
+    }
 }
 
 /// A disk with every feature.
@@ -67,6 +75,7 @@ fn full(sector_size: u32, sectors: u64) -> Sheet {
         secure_discard: true,
         sector_size,
         sectors,
+        abi: Abi::Bits64,
     }
 }
 
@@ -90,7 +99,12 @@ pub fn profiles() -> [Profile; PORTS] {
     };
     let no_secure = Sheet {
         secure_discard: false,
+        abi: Abi::Bits32,
         ..full(2048, 3000)
+    };
+    let second_zone = Sheet {
+        abi: Abi::Bits32,
+        ..full(4096, 2816)
     };
     let no_flush = Sheet {
         flush: false,
@@ -98,7 +112,7 @@ pub fn profiles() -> [Profile; PORTS] {
     };
     let mut all = [
         Profile::new("board, first zone", board(0), full(512, 2816)),
-        Profile::new("board, second zone", board(9), full(4096, 2816)),
+        Profile::new("board, second zone", board(9), second_zone),
         Profile::new("no discard", Role::Plain, without_discard(full(1024, 2500))),
         Profile::new("no secure discard", Role::Plain, no_secure),
         Profile::new("medium can't discard", Role::Plain, full(4096, 4096)),
