@@ -79,6 +79,14 @@ fn full(sector_size: u32, sectors: u64) -> Sheet {
     }
 }
 
+/// The same for a 32-bit guest.
+fn bits32(sheet: Sheet) -> Sheet {
+    Sheet {
+        abi: Abi::Bits32,
+        ..sheet
+    }
+}
+
 /// The guests by port.
 pub fn profiles() -> [Profile; PORTS] {
     let board = |roll_hour| Role::Board { roll_hour };
@@ -99,12 +107,7 @@ pub fn profiles() -> [Profile; PORTS] {
     };
     let no_secure = Sheet {
         secure_discard: false,
-        abi: Abi::Bits32,
         ..full(2048, 3000)
-    };
-    let second_zone = Sheet {
-        abi: Abi::Bits32,
-        ..full(4096, 2816)
     };
     let no_flush = Sheet {
         flush: false,
@@ -112,9 +115,9 @@ pub fn profiles() -> [Profile; PORTS] {
     };
     let mut all = [
         Profile::new("board, first zone", board(0), full(512, 2816)),
-        Profile::new("board, second zone", board(9), second_zone),
+        Profile::new("board, second zone", board(9), bits32(full(4096, 2816))),
         Profile::new("no discard", Role::Plain, without_discard(full(1024, 2500))),
-        Profile::new("no secure discard", Role::Plain, no_secure),
+        Profile::new("no secure discard", Role::Plain, bits32(no_secure)),
         Profile::new("medium can't discard", Role::Plain, full(4096, 4096)),
         Profile::new("read-only", Role::Plain, read_only),
         Profile::new("bad sectors", Role::Plain, bare),
