@@ -1,7 +1,7 @@
 //! The numbers of the Rust package are those of the C header, and so are those of the Rattle sources.
 
 use kernelharp::words::{done, extent, kind, turn, DONE_WORDS, TURN_WORDS};
-use kernelharp::{layout, Operation, Reason, Refusal, Status, MEMORY_WORDS, VERSION};
+use kernelharp::{layout, Abi, Operation, Reason, Refusal, Status, MEMORY_WORDS, VERSION};
 use std::collections::BTreeMap;
 use std::fmt::Debug;
 
@@ -75,7 +75,9 @@ fn sizes_and_places() {
         ("KH_HEADER_BYTES", layout::HEADER_BYTES),
         ("KH_SLOTS", layout::SLOTS),
         ("KH_SLOT_BYTES", layout::SLOT_BYTES),
+        ("KH_SLOT32_BYTES", layout::SLOT32_BYTES),
         ("KH_RESPONSE_BYTES", layout::RESPONSE_BYTES),
+        ("KH_RESPONSE32_BYTES", layout::RESPONSE32_BYTES),
         ("KH_EXTENTS", layout::EXTENTS),
     ] {
         assert_eq!(header.get(name), Some(&(number as i64)), "{name}");
@@ -124,6 +126,12 @@ fn operations_and_statuses() {
     same_names(cases("kh_operation"), operations.map(|it| (it, it as i64)));
     let statuses = (0..10).filter_map(Status::from_magnitude);
     same_names(cases("kh_status"), statuses.map(|it| (it, it as i64)));
+}
+
+#[test]
+fn layouts() {
+    let layouts = Abi::ALL.into_iter();
+    same_names(cases("kh_abi"), layouts.map(|it| (it, it as i64)));
 }
 
 #[test]

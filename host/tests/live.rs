@@ -5,14 +5,17 @@
 
 use frontend::GuestPage;
 use generate::{Buffer, Call, Generator, Outcome, Step, World};
-use kernelharp::layout::{page, RING_BYTES, PORTS, PORT_GRANTS};
+use kernelharp::layout::{page, PORTS, PORT_GRANTS, RING_BYTES};
 use kernelharp::live::LiveBackend;
-use kernelharp::{Completion, Done, Name, Port, Refusal, Serial, Tag, Turn};
+use kernelharp::{Abi, Completion, Done, Name, Port, Refusal, Serial, Tag, Turn};
+use std::collections::HashSet;
 
 /// Eight guests' pages, and a backend over them.
 struct Live {
     pages: [&'static GuestPage; PORTS],
     backend: LiveBackend,
+    /// The layouts of the ports opened.
+    opened: HashSet<Abi>,
 }
 
 impl Live {
@@ -25,6 +28,7 @@ impl Live {
         Live {
             pages,
             backend: LiveBackend::new().expect("an archive of this package"),
+            opened: HashSet::new(),
         }
     }
 
@@ -84,6 +88,7 @@ impl Live {
         match *call {
             Call::Open { ref sheet, .. } => {
                 assert_eq!(backend.open(port, sheet, page), refused);
+                self.opened.extend(refused.map(|()| Abi::of_sheet(sheet)));
             }
             Call::Close { .. } => assert_eq!(backend.close(port).map(|_| ()), refused),
             Call::Complete { named, .. } => {
@@ -124,5 +129,7 @@ fn live_pages_end_up_as_lent_ones() {
             assert!(same, "seed {seed}, step {number}: {:?}", step.call);
             generator.observe(&step.call, &outcome);
         }
+        let layouts = live.opened.len();
+        assert_eq!(layouts, Abi::ALL.len(), "seed {seed}: both layouts occur");
     }
 }

@@ -4,11 +4,10 @@
 //! First in lockstep, in every order that their steps can have: without the rules some orders leave
 //! one side asleep for ever, with them none does. Then running freely, with the rules.
 
-use frontend::{segmented, EventChannel, Frontend, GuestPage, Segment};
+use frontend::{EventChannel, Frontend, GuestPage, Request, Segment};
 use generate::Random;
-use kernelharp::layout::SLOT_BYTES;
 use kernelharp::live::{LiveBackend, SharedPage};
-use kernelharp::{Backend, Plan, Port, Refusal, Sheet, Turn};
+use kernelharp::{Abi, Backend, Plan, Port, Refusal, Sheet, Turn};
 use std::sync::atomic::{fence, AtomicBool, Ordering};
 use std::sync::{Condvar, Mutex};
 use std::thread;
@@ -17,20 +16,21 @@ use std::time::{Duration, Instant};
 const READ: u8 = 0;
 
 /// A read of one sector, which passes every check.
-fn read(id: u64) -> [u8; SLOT_BYTES] {
+fn read(id: u64) -> Request {
     let segment = Segment {
         frame: 0,
         first: 0,
         last: 0,
     };
-    segmented(READ, id, 0, &[segment])
+    Request::segmented(READ, id, 0, &[segment])
 }
 
-fn sheet() -> Vec<u8> {
+fn sheet(abi: Abi) -> Vec<u8> {
     let sheet = Sheet {
         writable: true,
         sector_size: 512,
         sectors: 2008,
+        abi,
         ..Sheet::default()
     };
     sheet.bytes()
@@ -52,14 +52,14 @@ struct Pair {
 impl Pair {
     /// Both sides after one request and its response: req_event and rsp_event are behind.
     fn warm() -> Pair {
-        let (page, port) = (GuestPage::new(), port().unwrap());
+        let (page, port, abi) = (GuestPage::new(), port().unwrap(), Abi::default());
         let mut pair = Pair {
-            frontend: Frontend::new(page),
+            frontend: Frontend::new(page, abi),
             backend: Backend::new().unwrap(),
             page: page.shared(),
             port,
         };
-        pair.backend.open(port, &sheet()).unwrap();
+        pair.backend.open(port, &sheet(abi)).unwrap();
         pair.backend.grants_mut(port)[0] = 2;
         let plan = pair.start(1);
         pair.page
@@ -260,9 +260,9 @@ struct Bells {
 
 /// Nobody sleeps as long unless a wake-up is lost.
 const BOUND: Duration = Duration::from_secs(60);
-/// The free run ends with whichever comes first.
-const REQUESTS: u64 = 150_000;
-const RUN_FOR: Duration = Duration::from_secs(4);
+/// A free run ends with whichever comes first.
+const REQUESTS: u64 = 75_000;
+const RUN_FOR: Duration = Duration::from_secs(2);
 
 /// Serves until the guest has finished, sleeping whenever a turn is idle.
 fn serve(mut backend: LiveBackend, bells: &Bells) {
@@ -316,7 +316,7 @@ impl Asker<'_> {
 
     fn ask(&mut self) {
         let mut request = read(self.sent);
-        request[0] = self.random.pick(&[READ, READ, 9]);
+        request.operation = self.random.pick(&[READ, READ, 9]);
         self.frontend.put(&request);
         self.sent += 1;
         if self.random.chance(50) {
@@ -347,21 +347,28 @@ impl Asker<'_> {
 
 #[test]
 fn nobody_sleeps_over_anything_in_a_free_run() {
+    for abi in Abi::ALL {
+        let sent = free_run(abi);
+        println!("{abi}: {sent} requests, each with its response");
+    }
+}
+
+/// Gives how many requests were sent.
+fn free_run(abi: Abi) -> u64 {
     let (page, port) = (GuestPage::new(), port().unwrap());
     let mut backend = LiveBackend::new().unwrap();
-    backend.open(port, &sheet(), page.shared()).unwrap();
+    backend.open(port, &sheet(abi), page.shared()).unwrap();
     backend.grants_mut(port)[0] = 2;
     let bells = Bells::default();
-    let sent = thread::scope(|scope| {
+    thread::scope(|scope| {
         scope.spawn(|| serve(backend, &bells));
         let asker = Asker {
-            frontend: Frontend::new(page),
+            frontend: Frontend::new(page, abi),
             bells: &bells,
             random: Random::new(8),
             sent: 0,
             answered: 0,
         };
         asker.run()
-    });
-    println!("{sent} requests, each with its response");
+    })
 }

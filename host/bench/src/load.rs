@@ -1,32 +1,99 @@
 //! What the programs are measured on: full rings of reads.
 
+use frontend::{Request, Segment};
 use kernelharp::layout::{
-    page_mut, slot_at, write_u32, GRANTS_BYTES, HEADER_BYTES, RING_BYTES, REQ_PROD, RINGS_BYTES,
-    RSP_EVENT, SLOTS, SLOT_BYTES,
+    page_mut, write_u32, GRANTS_BYTES, HEADER_BYTES, REQ_PROD, RINGS_BYTES, RING_BYTES, RSP_EVENT,
+    SLOTS,
 };
+use kernelharp::{Abi, Operation, Sheet};
+use std::fmt;
 
-/// A writable disk of 1,048,576 sectors, as a node sheet.
-pub const SHEET: &[u8] = b"\x03\x01\0\x01\0\x06\0\x03\0\x07\0\x07\0w5121048576";
+const READ: u8 = Operation::Read as u8;
 
-/// How many segments a read has, and how many ports are open, from port 0 on.
+/// The layout of the open ports.
+#[derive(Clone, Copy)]
+pub enum Layout {
+    /// All have one.
+    All(Abi),
+    /// Each has another one than the port before it.
+    Both,
+}
+
+impl Layout {
+    const BITS64: Layout = Layout::All(Abi::Bits64);
+    const BITS32: Layout = Layout::All(Abi::Bits32);
+
+    /// The one that prints so.
+    pub fn of(text: &str) -> Option<Layout> {
+        let mut every = [Layout::BITS64, Layout::BITS32, Layout::Both].into_iter();
+        every.find(|layout| layout.to_string() == text)
+    }
+
+    fn of_port(self, port: usize) -> Abi {
+        match self {
+            Layout::All(abi) => abi,
+            Layout::Both => Abi::ALL[port % Abi::ALL.len()],
+        }
+    }
+}
+
+impl fmt::Display for Layout {
+    fn fmt(&self, f: &mut fmt::Formatter) -> fmt::Result {
+        match self {
+            Layout::All(abi) => abi.fmt(f),
+            Layout::Both => f.write_str("both"),
+        }
+    }
+}
+
+/// How many segments a read has, how many ports are open, from port 0 on, and their layout.
 #[derive(Clone, Copy)]
 pub struct Load {
     pub segments: usize,
     pub ports: usize,
+    pub layout: Layout,
 }
 
-/// The full load first; then fewer segments, then fewer ports.
-pub const LOADS: [Load; 5] = [
-    Load::new(11, 8),
-    Load::new(4, 8),
-    Load::new(1, 8),
-    Load::new(11, 4),
-    Load::new(11, 1),
+/// The full load first; then fewer segments, then fewer ports, then other guests.
+pub const LOADS: [Load; 7] = [
+    Load::new(11, 8, Layout::BITS64),
+    Load::new(4, 8, Layout::BITS64),
+    Load::new(1, 8, Layout::BITS64),
+    Load::new(11, 4, Layout::BITS64),
+    Load::new(11, 1, Layout::BITS64),
+    Load::new(11, 8, Layout::BITS32),
+    Load::new(11, 8, Layout::Both),
 ];
 
 impl Load {
-    pub const fn new(segments: usize, ports: usize) -> Load {
-        Load { segments, ports }
+    pub const fn new(segments: usize, ports: usize, layout: Layout) -> Load {
+        Load {
+            segments,
+            ports,
+            layout,
+        }
+    }
+
+    /// A writable disk of 1,048,576 sectors, as a node sheet.
+    pub fn sheet(self, port: usize) -> Vec<u8> {
+        let sheet = Sheet {
+            writable: true,
+            sector_size: 512,
+            sectors: 1_048_576,
+            abi: self.layout.of_port(port),
+            ..Sheet::default()
+        };
+        sheet.bytes()
+    }
+
+    /// What names it: segments, ports and layout.
+    pub fn words(self) -> [String; 3] {
+        let Load {
+            segments,
+            ports,
+            layout,
+        } = self;
+        [segments.to_string(), ports.to_string(), layout.to_string()]
     }
 
     /// How many requests fill the rings.
@@ -36,21 +103,25 @@ impl Load {
 
     /// The slots of a full ring page, the header left zero.
     fn slots(self, port: usize) -> [u8; RING_BYTES] {
-        let mut page = [0; RING_BYTES];
+        let (mut page, abi) = ([0; RING_BYTES], self.layout.of_port(port));
         for index in 0..SLOTS {
-            let slot = &mut page[slot_at(index as u32)..][..SLOT_BYTES];
-            let number = SLOTS * port + index;
-            slot[1] = self.segments as u8;
-            slot[8..16].copy_from_slice(&(0x1_0001 * number as u64).to_le_bytes());
-            slot[16..24].copy_from_slice(&(88 * number as u64).to_le_bytes());
-            let places = slot[24..].chunks_exact_mut(8).take(self.segments);
-            for (segment, place) in places.enumerate() {
-                // Whole frames, 352 of them to a port.
-                write_u32(place, 0, (11 * index + segment) as u32);
-                place[5] = 7;
-            }
+            let number = (SLOTS * port + index) as u64;
+            // Whole frames, 352 of them to a port.
+            let frames = (11 * index..).take(self.segments);
+            let segments: Vec<Segment> = frames.map(whole_frame).collect();
+            let read = Request::segmented(READ, 0x1_0001 * number, 88 * number, &segments);
+            let slot = &mut page[abi.slot_at(index as u32)..][..abi.slot_bytes()];
+            slot.copy_from_slice(&read.slot(abi));
         }
         page
+    }
+}
+
+fn whole_frame(frame: usize) -> Segment {
+    Segment {
+        frame: frame as u32,
+        first: 0,
+        last: 7,
     }
 }
 

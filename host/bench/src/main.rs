@@ -1,12 +1,11 @@
 //! The benchmark: the archive's calls and the second program's on full rings of reads.
 //!
-//! - `bench times`: nanoseconds a request of both programs, over many runs of
-//!   `bench sample SEGMENTS PORTS`.
+//! - `bench times`: nanoseconds a request of both programs, over many runs of `bench sample LOAD`.
 //! - `bench memory`: what the host lends, and the stack of a call.
-//! - `bench rounds archive|second SEGMENTS PORTS ROUNDS`: rounds of one program, to count its
-//!   instructions.
+//! - `bench rounds archive|second LOAD ROUNDS`: rounds of one program, to count its instructions.
 //!
-//! `tests/bench` runs all of it.
+//! LOAD is SEGMENTS PORTS LAYOUT, where the layout of the guests is `64-bit`, `32-bit`, or `both` by
+//! turns. `tests/bench` runs all of it.
 
 mod load;
 mod programs;
@@ -14,7 +13,7 @@ mod programs;
 mod stack;
 mod times;
 
-use load::Load;
+use load::{Layout, Load};
 use programs::{Archive, Bench, Program, Second};
 
 fn main() {
@@ -22,10 +21,10 @@ fn main() {
     let arguments: Vec<&str> = arguments.iter().map(String::as_str).collect();
     match arguments[..] {
         ["times"] => times::print(),
-        ["sample", segments, ports] => times::sample(load(segments, ports)),
+        ["sample", segments, ports, layout] => times::sample(load(segments, ports, layout)),
         ["memory"] => stack::print(),
-        ["rounds", program, segments, ports, rounds] => {
-            let (load, rounds) = (load(segments, ports), number(rounds));
+        ["rounds", program, segments, ports, layout, rounds] => {
+            let (load, rounds) = (load(segments, ports, layout), number(rounds));
             match program {
                 "archive" => run(Bench::new(Archive::new(), load), rounds),
                 "second" => run(Bench::new(Second::new(), load), rounds),
@@ -33,7 +32,7 @@ fn main() {
             }
         }
         _ => panic!(
-            "times, sample SEGMENTS PORTS, memory, or rounds archive|second SEGMENTS PORTS ROUNDS"
+            "times, sample LOAD, memory, or rounds archive|second LOAD ROUNDS; LOAD is SEGMENTS PORTS LAYOUT"
         ),
     }
 }
@@ -42,8 +41,9 @@ fn number(text: &str) -> usize {
     text.parse().expect("a number")
 }
 
-fn load(segments: &str, ports: &str) -> Load {
-    Load::new(number(segments), number(ports))
+fn load(segments: &str, ports: &str, layout: &str) -> Load {
+    let layout = Layout::of(layout).expect("64-bit, 32-bit or both");
+    Load::new(number(segments), number(ports), layout)
 }
 
 fn run<P: Program>(mut bench: Bench<P>, rounds: usize) {

@@ -1,6 +1,6 @@
 //! The two programs, each called as a host calls it.
 
-use crate::load::{Lent, Load, SHEET};
+use crate::load::{Lent, Load};
 use generate::{for_second, Core};
 use kernelharp::words::{done, kind, turn, DoneWords, TurnWords, DONE_WORDS, TURN_WORDS};
 use kernelharp::{Completion, Memory};
@@ -13,7 +13,7 @@ const OKAY: u64 = Status::Okay as u64;
 
 /// The calls that are measured.
 pub trait Program {
-    fn open(&mut self, port: u32) -> bool;
+    fn open(&mut self, port: u32, sheet: &[u8]) -> bool;
     /// Starts the next request; gives what completes it well.
     fn turn(&mut self, lent: &mut Lent) -> Completion;
     /// Whether the guest is to be notified.
@@ -48,8 +48,8 @@ impl Archive {
 }
 
 impl Program for Archive {
-    fn open(&mut self, port: u32) -> bool {
-        self.memory.open(port, SHEET) == DONE
+    fn open(&mut self, port: u32, sheet: &[u8]) -> bool {
+        self.memory.open(port, sheet) == DONE
     }
 
     fn turn(&mut self, lent: &mut Lent) -> Completion {
@@ -79,8 +79,8 @@ impl Second {
 }
 
 impl Program for Second {
-    fn open(&mut self, port: u32) -> bool {
-        self.0.open(port, SHEET).is_ok()
+    fn open(&mut self, port: u32, sheet: &[u8]) -> bool {
+        self.0.open(port, sheet).is_ok()
     }
 
     fn turn(&mut self, lent: &mut Lent) -> Completion {
@@ -125,7 +125,8 @@ pub struct Bench<P> {
 impl<P: Program> Bench<P> {
     pub fn new(mut program: P, load: Load) -> Bench<P> {
         for port in 0..load.ports {
-            assert!(program.open(port as u32), "port {port} opens");
+            let opened = program.open(port as u32, &load.sheet(port));
+            assert!(opened, "port {port} opens");
         }
         let none = Completion {
             port: 0,
@@ -183,7 +184,7 @@ fn answers(program: &mut dyn Core, load: Load) -> Vec<u64> {
     let (mut lent, mut words) = (Lent::new(load), Vec::new());
     lent.refill();
     for port in 0..load.ports {
-        assert_eq!(program.open(port as u32, SHEET), DONE);
+        assert_eq!(program.open(port as u32, &load.sheet(port)), DONE);
     }
     let (mut turn, mut done) = ([0; TURN_WORDS], [0; DONE_WORDS]);
     for _ in 0..load.requests() {

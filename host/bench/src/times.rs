@@ -73,8 +73,8 @@ pub fn sample(load: Load) {
 /// What another process prints that runs [`sample`].
 fn other_process(load: Load) -> Vec<f64> {
     let program = std::env::current_exe().expect("the path of this program");
-    let numbers = [load.segments, load.ports].map(|number| number.to_string());
-    let output = Command::new(program).arg("sample").args(numbers).output();
+    let mut sample = Command::new(program);
+    let output = sample.arg("sample").args(load.words()).output();
     let output = output.expect("this program once more");
     assert!(output.status.success(), "a sample: {output:?}");
     let line = String::from_utf8(output.stdout).expect("a line of numbers");
@@ -85,10 +85,10 @@ fn other_process(load: Load) -> Vec<f64> {
 /// A line to a load: the medians over the processes, their ratio, and the lowest and the highest
 /// ratio of a single process.
 pub fn print() {
-    println!("| segments | open ports | archive: turn | completion | request | second program: turn | completion | request | ratio | lowest to highest |");
-    println!("|---|---|---|---|---|---|---|---|---|---|");
-    let samples: Vec<[Vec<f64>; 5]> = (0..PROCESSES).map(|_| LOADS.map(other_process)).collect();
-    for (index, Load { segments, ports }) in LOADS.into_iter().enumerate() {
+    println!("| segments | open ports | layout | archive: turn | completion | request | second program: turn | completion | request | ratio | lowest to highest |");
+    println!("|---|---|---|---|---|---|---|---|---|---|---|");
+    let samples: Vec<_> = (0..PROCESSES).map(|_| LOADS.map(other_process)).collect();
+    for (index, load) in LOADS.into_iter().enumerate() {
         let column = |cell: usize| samples.iter().map(move |sample| sample[index][cell]);
         let medians: Vec<f64> = (0..6).map(|cell| median(column(cell).collect())).collect();
         let cells: Vec<String> = medians.iter().map(|cell| format!("{cell:.1}")).collect();
@@ -97,7 +97,8 @@ pub fn print() {
             ratios().fold(f64::MAX, f64::min),
             ratios().fold(0.0, f64::max),
         );
-        let (cells, ratio) = (cells.join(" | "), medians[2] / medians[5]);
-        println!("| {segments} | {ports} | {cells} | {ratio:.2} | {lowest:.2} to {highest:.2} |");
+        let (load, cells) = (load.words().join(" | "), cells.join(" | "));
+        let ratio = medians[2] / medians[5];
+        println!("| {load} | {cells} | {ratio:.2} | {lowest:.2} to {highest:.2} |");
     }
 }

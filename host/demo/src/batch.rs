@@ -3,9 +3,9 @@
 use crate::link::{Frames, FRAME_SECTORS, NO_FRAME, READ_WRITE_FRAMES};
 use crate::pattern::{Model, SECTOR};
 use crate::profile::Profile;
-use frontend::{discard, segmented, Segment};
+use frontend::{Request, Segment};
 use generate::Random;
-use kernelharp::layout::{EXTENTS, SLOTS, SLOT_BYTES};
+use kernelharp::layout::{EXTENTS, SLOTS};
 use kernelharp::{Operation, Status};
 use std::ops::Range;
 
@@ -26,7 +26,7 @@ pub const MOST_SECTORS: u64 = (EXTENTS * FRAME_SECTORS) as u64;
 
 /// A request and what is due for it.
 pub struct Job {
-    pub slot: [u8; SLOT_BYTES],
+    pub request: Request,
     pub status: i16,
     /// Of a read: where the disk's sectors are due, and which.
     read: Option<ReadBack>,
@@ -113,8 +113,8 @@ impl Batch<'_> {
 
     pub fn add_flush(&mut self) {
         let status = self.status_due(FLUSH, false);
-        let slot = segmented(FLUSH, self.id(), 0, &[]);
-        self.push(slot, status, None);
+        let request = Request::segmented(FLUSH, self.id(), 0, &[]);
+        self.push(request, status, None);
     }
 
     pub fn is_full(&self) -> bool {
@@ -153,12 +153,12 @@ impl Batch<'_> {
         if status == OKAY && overlap(&self.profile.bad, &(start..start + count)) {
             status = ERROR;
         }
-        let slot = segmented(operation, self.id(), start, &segments);
+        let request = Request::segmented(operation, self.id(), start, &segments);
         if operation == READ {
             let versions = self.model.versions(start, count).to_vec();
             let versions = (status == OKAY).then_some(versions);
             self.push_read(
-                slot,
+                request,
                 status,
                 ReadBack {
                     segments,
@@ -168,7 +168,7 @@ impl Batch<'_> {
             );
         } else {
             self.take_along(start, &segments, status == OKAY);
-            self.push(slot, status, None);
+            self.push(request, status, None);
         }
         if operation == BARRIER && status == OKAY {
             self.touched.clear();
@@ -205,8 +205,8 @@ impl Batch<'_> {
         } else if status == OKAY {
             self.model.set(start, count, 0);
         }
-        let slot = discard(self.id(), secure, start, count);
-        self.push(slot, status, None);
+        let request = Request::discard(self.id(), secure, start, count);
+        self.push(request, status, None);
         self.touched.push((start..start + count, true));
     }
 
@@ -235,14 +235,14 @@ impl Batch<'_> {
         } else {
             NOT_SUPPORTED
         };
-        let mut slot = segmented(operation, self.id(), start, &segments);
-        slot[1] = n;
+        let mut request = Request::segmented(operation, self.id(), start, &segments);
+        request.count_or_flag = n;
         let untouched = ReadBack {
             segments: whole,
             start,
             versions: None,
         };
-        self.push_read(slot, status, untouched);
+        self.push_read(request, status, untouched);
     }
 
     /// What a guest that knows its disk expects of a sound request.
@@ -261,17 +261,21 @@ impl Batch<'_> {
         }
     }
 
-    fn push_read(&mut self, slot: [u8; SLOT_BYTES], status: i16, read: ReadBack) {
+    fn push_read(&mut self, request: Request, status: i16, read: ReadBack) {
         for segment in &read.segments {
             for place in 0..FRAME_SECTORS {
                 self.frames.write(segment.frame, place, &FILLER);
             }
         }
-        self.push(slot, status, Some(read));
+        self.push(request, status, Some(read));
     }
 
-    fn push(&mut self, slot: [u8; SLOT_BYTES], status: i16, read: Option<ReadBack>) {
-        self.jobs.push(Job { slot, status, read });
+    fn push(&mut self, request: Request, status: i16, read: Option<ReadBack>) {
+        self.jobs.push(Job {
+            request,
+            status,
+            read,
+        });
     }
 
     /// Segments of any shape whose sectors together are a multiple of the disk's unit.

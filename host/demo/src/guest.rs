@@ -7,7 +7,7 @@ use crate::profile::{Profile, Role};
 use crate::report::Checks;
 use frontend::{EventChannel, Frontend, Response};
 use generate::Random;
-use kernelharp::layout::{read_u64, SLOTS};
+use kernelharp::layout::SLOTS;
 use std::collections::HashMap;
 use std::sync::atomic::Ordering;
 
@@ -38,7 +38,7 @@ impl<'a> Guest<'a> {
             profile,
             link,
             to_host,
-            frontend: Frontend::new(link.page),
+            frontend: Frontend::new(link.page, profile.sheet.abi),
             model,
             next_id: random.word(),
             random,
@@ -106,7 +106,7 @@ impl<'a> Guest<'a> {
         assert!(jobs.len() <= SLOTS, "a round is one ring at most");
         let mut lot = 0;
         for (number, job) in jobs.iter().enumerate() {
-            self.frontend.put(&job.slot);
+            self.frontend.put(&job.request);
             if lot == 0 {
                 lot = 1 + self.random.index(jobs.len() - number);
             }
@@ -120,7 +120,7 @@ impl<'a> Guest<'a> {
 
     /// Sleeps until each request has its one response, and checks it.
     fn collect(&mut self, jobs: Vec<Job>) -> Result<(), String> {
-        let by_id = |job: Job| (read_u64(&job.slot, 8), job);
+        let by_id = |job: Job| (job.request.id, job);
         let mut due: HashMap<u64, Job> = jobs.into_iter().map(by_id).collect();
         loop {
             while let Some(response) = self.frontend.response() {
@@ -141,7 +141,7 @@ impl<'a> Guest<'a> {
     fn check(&mut self, job: &Job, response: &Response) -> Result<(), String> {
         let due = Response {
             id: response.id,
-            operation: job.slot[0],
+            operation: job.request.operation,
             status: job.status,
             padding_is_zero: true,
         };

@@ -8,7 +8,7 @@ use frontend::EventChannel;
 use generate::Random;
 use kernelharp::layout::PORTS;
 use kernelharp::live::LiveBackend;
-use kernelharp::{Name, Operation, Plan, Port, Refusal, Turn};
+use kernelharp::{Abi, Name, Operation, Plan, Port, Refusal, Sheet, Turn};
 
 /// Turns in a row before the host goes on with the I/O.
 const BURST: usize = 64;
@@ -81,8 +81,8 @@ impl<'a> Host<'a> {
     fn attend(&mut self, port: Port) -> Result<(), String> {
         let link = &self.links[port.index()];
         match link.state() {
-            State::Initialised => {
-                self.open(port)?;
+            State::Initialised(abi) => {
+                self.open(port, abi)?;
                 link.go(State::Connected, &link.to_guest);
             }
             State::Connected if self.broken[port.index()] => {
@@ -98,11 +98,13 @@ impl<'a> Host<'a> {
         Ok(())
     }
 
-    fn open(&mut self, port: Port) -> Result<(), String> {
-        let sheet = self.profiles[port.index()].sheet.bytes();
+    /// The disk is the host's to describe, the layout the guest's.
+    fn open(&mut self, port: Port, abi: Abi) -> Result<(), String> {
+        let disk = self.profiles[port.index()].sheet;
         let page = self.links[port.index()].page.shared();
         *self.backend.grants_mut(port) = grants();
-        let opened = self.backend.open(port, &sheet, page);
+        let sheet = Sheet { abi, ..disk };
+        let opened = self.backend.open(port, &sheet.bytes(), page);
         opened.map_err(|refusal| format!("open of {port}: {refusal}"))
     }
 

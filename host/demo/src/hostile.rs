@@ -1,13 +1,15 @@
 //! A guest that breaks the rules: rubbish in its slots, requests rewritten while they are read,
-//! scribbled indices, req_prod moved back and at last far ahead. Then it connects again.
+//! requests of another layout than it said, scribbled indices, req_prod moved back and at last far
+//! ahead. Then it connects again, in the other layout.
 
 use crate::batch::{BARRIER, DISCARD, READ, WRITE};
 use crate::link::{Link, State, BOUND, READ_WRITE_FRAMES};
 use crate::pattern::Model;
 use crate::report::Checks;
-use frontend::{discard, segmented, EventChannel, Segment};
+use frontend::{EventChannel, Request, Segment};
 use generate::Random;
-use kernelharp::layout::{slot_at, REQ_EVENT, REQ_PROD, RSP_EVENT, RSP_PROD, SLOT_BYTES};
+use kernelharp::layout::{REQ_EVENT, REQ_PROD, RSP_EVENT, RSP_PROD};
+use kernelharp::Abi;
 use std::sync::atomic::Ordering;
 use std::time::Duration;
 
@@ -22,16 +24,19 @@ pub struct Hostile<'a> {
     link: &'a Link,
     to_host: &'a EventChannel,
     random: Random,
+    /// The layout of its ring.
+    abi: Abi,
     /// Requests published.
     req_prod: u32,
 }
 
 impl<'a> Hostile<'a> {
-    pub fn new(link: &'a Link, to_host: &'a EventChannel, random: Random) -> Hostile<'a> {
+    pub fn new(link: &'a Link, to_host: &'a EventChannel, abi: Abi, random: Random) -> Hostile<'a> {
         Hostile {
             link,
             to_host,
             random,
+            abi,
             req_prod: 0,
         }
     }
@@ -62,15 +67,24 @@ impl<'a> Hostile<'a> {
     fn connect_again(&mut self) {
         self.link.page.init();
         self.req_prod = 0;
-        self.link.go(State::Initialised, self.to_host);
+        self.change_layout();
+        self.link.go(State::Initialised(self.abi), self.to_host);
+    }
+
+    fn change_layout(&mut self) {
+        self.abi = match self.abi {
+            Abi::Bits64 => Abi::Bits32,
+            Abi::Bits32 => Abi::Bits64,
+        };
     }
 
     /// One game of many.
     fn play(&mut self) {
         match self.random.below(100) {
-            0..30 => self.send(|random, slot| random.fill(slot)),
-            30..60 => self.send(damage),
-            60..85 => self.rewrite_while_it_is_read(),
+            0..30 => self.send(Self::rubbish),
+            30..60 => self.send(Self::damaged),
+            60..80 => self.rewrite_while_it_is_read(),
+            80..85 => self.mistake_the_layout(),
             85..95 => self.scribble(),
             95..97 => self.take_back(),
             _ => self.to_host.notify(),
@@ -78,12 +92,12 @@ impl<'a> Hostile<'a> {
         self.settle();
     }
 
-    /// Publishes a few requests that look sound, but for what `spoil` does to them.
-    fn send(&mut self, spoil: impl Fn(&mut Random, &mut [u8; SLOT_BYTES])) {
+    /// Publishes a few requests.
+    fn send(&mut self, make: impl Fn(&mut Self) -> Vec<u8>) {
         for _ in 0..1 + self.random.index(8) {
-            let mut slot = self.sound();
-            spoil(&mut self.random, &mut slot);
-            self.link.page.write(slot_at(self.req_prod), &slot);
+            let slot = make(self);
+            let at = self.abi.slot_at(self.req_prod);
+            self.link.page.write(at, &slot);
             self.req_prod = self.req_prod.wrapping_add(1);
         }
         self.publish(self.req_prod);
@@ -91,13 +105,19 @@ impl<'a> Hostile<'a> {
 
     /// Requests that change after they were published, and so perhaps after they were checked.
     fn rewrite_while_it_is_read(&mut self) {
-        let at = slot_at(self.req_prod);
-        self.send(|_, _| ());
+        let at = self.abi.slot_at(self.req_prod);
+        self.send(Self::sound);
         for _ in 0..64 {
-            let mut slot = self.sound();
-            damage(&mut self.random, &mut slot);
+            let slot = self.damaged();
             self.link.page.write(at, &slot);
         }
+    }
+
+    /// Requests as and where a guest of the other layout has them.
+    fn mistake_the_layout(&mut self) {
+        self.change_layout();
+        self.send(Self::sound);
+        self.change_layout();
     }
 
     /// Writes over words that are the host's.
@@ -105,22 +125,45 @@ impl<'a> Hostile<'a> {
         for at in [REQ_EVENT, RSP_PROD, RSP_EVENT, 16, 60, 4092] {
             self.link.page.store(at, self.random.word() as u32);
         }
-        self.send(|_, _| ());
+        self.send(Self::sound);
     }
 
     /// Publishes requests and takes the newest back: too late, it is an overrun.
     fn take_back(&mut self) {
-        self.send(|_, _| ());
+        self.send(Self::sound);
         self.req_prod = self.req_prod.wrapping_sub(1);
         self.publish(self.req_prod);
     }
 
+    fn rubbish(&mut self) -> Vec<u8> {
+        let mut slot = vec![0; self.abi.slot_bytes()];
+        self.random.fill(&mut slot);
+        slot
+    }
+
+    /// A sound request but for one byte of those that mean something.
+    fn damaged(&mut self) -> Vec<u8> {
+        let mut slot = self.sound();
+        let at = match self.random.below(11) {
+            0..3 => self.random.pick(&[0, 1, 1]),
+            // The start, and behind it the first segment.
+            _ => self.abi.start_at() + self.random.pick(&[0, 2, 7, 8, 9, 12, 13, 13]),
+        };
+        slot[at] = self.random.byte() >> self.random.below(8);
+        slot
+    }
+
     /// A sound request to its own disk and frames.
-    fn sound(&mut self) -> [u8; SLOT_BYTES] {
+    fn sound(&mut self) -> Vec<u8> {
+        self.sound_request().slot(self.abi)
+    }
+
+    fn sound_request(&mut self) -> Request {
         let operation = self.random.pick(&[READ, WRITE, WRITE, BARRIER, DISCARD]);
         let (id, start) = (self.random.word(), self.random.below(2000));
         if operation == DISCARD {
-            return discard(id, self.random.chance(50), start, 1 + self.random.below(40));
+            let (secure, count) = (self.random.chance(50), 1 + self.random.below(40));
+            return Request::discard(id, secure, start, count);
         }
         let granted = if operation == READ {
             0
@@ -132,12 +175,8 @@ impl<'a> Hostile<'a> {
             first: 0,
             last: self.random.below(8) as u8,
         };
-        segmented(
-            operation,
-            id,
-            start,
-            &vec![segment; 1 + self.random.index(5)],
-        )
+        let segments = vec![segment; 1 + self.random.index(5)];
+        Request::segmented(operation, id, start, &segments)
     }
 
     fn publish(&mut self, req_prod: u32) {
@@ -168,10 +207,4 @@ impl<'a> Hostile<'a> {
         }
         Ok(())
     }
-}
-
-/// Changes one byte of those that mean something.
-fn damage(random: &mut Random, slot: &mut [u8; SLOT_BYTES]) {
-    let at = random.pick(&[0, 1, 1, 16, 18, 23, 24, 25, 28, 29, 29]);
-    slot[at] = random.byte() >> random.below(8);
 }

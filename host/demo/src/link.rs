@@ -4,6 +4,7 @@
 use crate::pattern::SECTOR;
 use frontend::{EventChannel, GuestPage};
 use kernelharp::layout::{EXTENTS, PORT_GRANTS, SLOTS};
+use kernelharp::Abi;
 use std::sync::atomic::{AtomicU64, Ordering};
 use std::sync::{Mutex, PoisonError};
 use std::time::Duration;
@@ -67,9 +68,9 @@ fn place(frame: u32, first: usize) -> usize {
 /// How far a connection is; a toolstack would carry this.
 #[derive(Clone, Copy, Debug, PartialEq, Eq)]
 pub enum State {
-    /// The guest has an unused ring for the host to open, and waits for responses on it before it
-    /// goes on to another state.
-    Initialised,
+    /// The guest has an unused ring of this layout for the host to open, and waits for responses on
+    /// it before it goes on to another state.
+    Initialised(Abi),
     /// The host has opened the port.
     Connected,
     /// The guest wants the port closed for good.
@@ -91,13 +92,13 @@ pub struct Link {
 }
 
 impl Link {
-    pub fn new() -> Link {
+    pub fn new(abi: Abi) -> Link {
         Link {
             page: GuestPage::new(),
             frames: Frames::new(),
             to_guest: EventChannel::new(),
             rounds: AtomicU64::new(0),
-            state: Mutex::new(State::Initialised),
+            state: Mutex::new(State::Initialised(abi)),
         }
     }
 

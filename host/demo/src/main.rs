@@ -32,7 +32,8 @@ fn main() -> ExitCode {
         "Eight guests on eight disk images, {rounds} rounds, seed {seed}. Two are game boards that"
     );
     println!("roll their day at different hours, beside saved scores that must stay untouched;");
-    println!("one guest is hostile. Every id is to be answered once, every byte to be read back");
+    println!("two guests have 32-bit rings; one is hostile and comes back each time with a ring");
+    println!("of the other layout. Every id is to be answered once, every byte to be read back");
     println!("as it was written.");
     match demo(seed, rounds) {
         Ok(()) => ExitCode::SUCCESS,

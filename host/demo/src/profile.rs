@@ -1,7 +1,7 @@
 //! The eight guests: what each is and what disk it has.
 
 use kernelharp::layout::PORTS;
-use kernelharp::Sheet;
+use kernelharp::{Abi, Sheet};
 use std::ops::Range;
 
 /// What a guest does with its disk.
@@ -55,6 +55,14 @@ impl Profile {
             Role::Plain | Role::Hostile => 0,
         }
     }
+
+    /// The layout of its ring, as the report has it: the hostile guest changes it.
+    pub fn layout(&self) -> String {
+        match self.role {
+            Role::Hostile => "both".to_string(),
+            Role::Board { .. } | Role::Plain => self.sheet.abi.to_string(),
+        }
+    }
 }
 
 /// A disk with every feature.
@@ -67,6 +75,15 @@ fn full(sector_size: u32, sectors: u64) -> Sheet {
         secure_discard: true,
         sector_size,
         sectors,
+        abi: Abi::Bits64,
+    }
+}
+
+/// The same for a 32-bit guest.
+fn bits32(sheet: Sheet) -> Sheet {
+    Sheet {
+        abi: Abi::Bits32,
+        ..sheet
     }
 }
 
@@ -98,9 +115,9 @@ pub fn profiles() -> [Profile; PORTS] {
     };
     let mut all = [
         Profile::new("board, first zone", board(0), full(512, 2816)),
-        Profile::new("board, second zone", board(9), full(4096, 2816)),
+        Profile::new("board, second zone", board(9), bits32(full(4096, 2816))),
         Profile::new("no discard", Role::Plain, without_discard(full(1024, 2500))),
-        Profile::new("no secure discard", Role::Plain, no_secure),
+        Profile::new("no secure discard", Role::Plain, bits32(no_secure)),
         Profile::new("medium can't discard", Role::Plain, full(4096, 4096)),
         Profile::new("read-only", Role::Plain, read_only),
         Profile::new("bad sectors", Role::Plain, bare),

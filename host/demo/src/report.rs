@@ -153,10 +153,11 @@ impl Progress {
 pub fn print_table(profiles: &[Profile], counts: &Counts, checks: &[Checks]) {
     println!();
     println!(
-        "{:<5}{:<21}{:>7}{:>9}{:>9}{:>11}{:>11}{:>10}{:>13}{:>13}",
+        "{:<5}{:<21}{:>7}{:>8}{:>9}{:>9}{:>11}{:>11}{:>10}{:>13}{:>13}",
         "port",
         "guest",
         "disk",
+        "layout",
         "started",
         "refused",
         "responses",
@@ -169,11 +170,12 @@ pub fn print_table(profiles: &[Profile], counts: &Counts, checks: &[Checks]) {
     for (port, (profile, checks)) in profiles.iter().zip(checks).enumerate() {
         let mode = if profile.sheet.writable { "w" } else { "r" };
         let disk = format!("{mode} {}", profile.sheet.sector_size);
-        let head = format!("{port:<5}{:<21}{disk:>7}", profile.name);
+        let (name, layout) = (profile.name, profile.layout());
+        let head = format!("{port:<5}{name:<21}{disk:>7}{layout:>8}");
         print_row(&head, &counts.ports[port], checks);
         sum.add(checks);
     }
-    print_row(&format!("{:<33}", "all"), &counts.total(), &sum);
+    print_row(&format!("{:<41}", "all"), &counts.total(), &sum);
     print_sums(counts, &sum);
 }
 

@@ -42,7 +42,7 @@ fn play(
     seed: u64,
     rounds: u64,
 ) -> Result<(Counts, Vec<End>), String> {
-    let links: [Link; PORTS] = std::array::from_fn(|_| Link::new());
+    let links: [Link; PORTS] = std::array::from_fn(|port| Link::new(profiles[port].sheet.abi));
     let (bell, mut progress) = (EventChannel::new(), Progress::new(rounds));
     let random = |part: usize| Random::new(seed.wrapping_mul(16).wrapping_add(part as u64));
     let mut host = Host::new(profiles, &links, &bell, disks, random(PORTS))?;
@@ -52,7 +52,7 @@ fn play(
             let (profile, link, bell) = (&profiles[port], &links[port], &bell);
             let random = random(port);
             guests.push(scope.spawn(move || match profile.role {
-                Role::Hostile => Hostile::new(link, bell, random).run(rounds),
+                Role::Hostile => Hostile::new(link, bell, profile.sheet.abi, random).run(rounds),
                 _ => Guest::new(profile, link, bell, model, random).run(rounds),
             }));
         }

@@ -4,7 +4,7 @@ use std::fs;
 use std::path::PathBuf;
 use std::process::{Command, Output};
 
-/// The columns of a row behind the guest's name and disk.
+/// The columns of a row behind the guest's name, disk and layout.
 const FIGURES: usize = 7;
 
 /// Runs the demo with a temporary folder of its own, which must be empty again afterwards.
@@ -40,6 +40,12 @@ fn figures(text: &str, begin: &str) -> Vec<f64> {
     figures.iter().map(|word| word.parse().unwrap()).collect()
 }
 
+/// The layout of a guest's ring, the column before its figures.
+fn layout(text: &str, port: usize) -> &str {
+    let mut words = line(text, &format!("{port}    ")).split_whitespace().rev();
+    words.nth(FIGURES).unwrap()
+}
+
 #[test]
 fn the_demo_runs_small() {
     let text = table("small", &["5", "30"]);
@@ -57,6 +63,9 @@ fn the_demo_runs_small() {
         6.0,
         "overruns of the hostile guest"
     );
+    let layouts: [&str; 8] = std::array::from_fn(|port| layout(&text, port));
+    let due = "64-bit 32-bit 64-bit 32-bit 64-bit 64-bit 64-bit both";
+    assert_eq!(layouts.join(" "), due);
     let reasons = line(&text, "refused by reason:").replace(':', " ");
     let reasons: Vec<&str> = reasons.split_whitespace().skip(3).collect();
     for (number, pair) in (21..=29).zip(reasons.chunks(2)) {

@@ -2,8 +2,8 @@
 //! Xen's public ring.h.
 //!
 //! [`GuestPage`] is a ring page that a guest thread and a host thread share, [`Frontend`] the
-//! guest's private indices over it, [`Response`] what it reads back, and [`EventChannel`] the bell
-//! between the two.
+//! guest's private indices over it and the layout that it keeps, [`Request`] what it puts there,
+//! [`Response`] what it reads back, and [`EventChannel`] the bell between the two.
 
 mod event;
 mod page;
@@ -12,5 +12,5 @@ mod ring;
 
 pub use event::EventChannel;
 pub use page::GuestPage;
-pub use request::{discard, segmented, Response, Segment};
+pub use request::{Request, Response, Segment};
 pub use ring::Frontend;

@@ -1,15 +1,16 @@
 //! A guest's private indices over its page; ring.h's macro for each step is named.
 
-use crate::{GuestPage, Response};
-use kernelharp::layout::{
-    slot_at, REQ_EVENT, REQ_PROD, RESPONSE_BYTES, RSP_EVENT, RSP_PROD, SLOTS, SLOT_BYTES,
-};
+use crate::{GuestPage, Request, Response};
+use kernelharp::layout::{REQ_EVENT, REQ_PROD, RSP_EVENT, RSP_PROD, SLOTS};
+use kernelharp::Abi;
 use std::sync::atomic::{fence, Ordering};
 
 /// A guest's side of a ring.
 #[derive(Debug)]
 pub struct Frontend {
     page: &'static GuestPage,
+    /// How the guest lays out its requests.
+    abi: Abi,
     /// Requests put.
     req_prod_pvt: u32,
     /// Requests published.
@@ -20,9 +21,10 @@ pub struct Frontend {
 
 impl Frontend {
     /// Begins on a page with an unused ring (FRONT_RING_INIT).
-    pub fn new(page: &'static GuestPage) -> Frontend {
+    pub fn new(page: &'static GuestPage, abi: Abi) -> Frontend {
         Frontend {
             page,
+            abi,
             req_prod_pvt: 0,
             published: 0,
             rsp_cons: 0,
@@ -35,9 +37,10 @@ impl Frontend {
     }
 
     /// Puts a request in the next slot, not yet published.
-    pub fn put(&mut self, request: &[u8; SLOT_BYTES]) {
+    pub fn put(&mut self, request: &Request) {
         assert!(self.free() > 0, "a full ring");
-        self.page.write(slot_at(self.req_prod_pvt), request);
+        let at = self.abi.slot_at(self.req_prod_pvt);
+        self.page.write(at, &request.slot(self.abi));
         self.req_prod_pvt = self.req_prod_pvt.wrapping_add(1);
     }
 
@@ -79,8 +82,8 @@ impl Frontend {
         }
         // The response is read after the index that published it.
         fence(Ordering::Acquire);
-        let mut bytes = [0; RESPONSE_BYTES];
-        self.page.read(slot_at(self.rsp_cons), &mut bytes);
+        let mut bytes = vec![0; self.abi.response_bytes()];
+        self.page.read(self.abi.slot_at(self.rsp_cons), &mut bytes);
         self.rsp_cons = self.rsp_cons.wrapping_add(1);
         Some(Response::from_bytes(&bytes))
     }

@@ -2,7 +2,7 @@
 
 use kernelharp::{Backend, Extent, Operation, Plan, Port, Turn};
 
-/// A writable disk of 2,008 sectors, as a node sheet.
+/// A writable disk of 2,008 sectors, as a node sheet. It has no node protocol: a 64-bit guest's.
 const SHEET: &[u8] = b"\x03\x01\0\x01\0\x06\0\x03\0\x07\0\x04\0w5122008";
 
 fn main() -> Result<(), Box<dyn std::error::Error>> {
@@ -45,7 +45,7 @@ fn carry_out(plan: &Plan, disk: &mut [u8], frame: &mut [u8]) -> i32 {
     plan.expected_result()
 }
 
-/// A read of eight sectors from sector 2,000 on into frame 5, as the guest writes it.
+/// A read of eight sectors from sector 2,000 on into frame 5, as a 64-bit guest writes it.
 fn post_a_read(page: &mut [u8]) {
     page[64..66].copy_from_slice(&[0, 1]); // read, one segment
     page[80..88].copy_from_slice(&2000u64.to_le_bytes()); // start

@@ -1,5 +1,7 @@
 //! Sizes and places of buffers, ring pages and slots (sections 1 and 2 of the rules).
 
+use std::fmt;
+
 /// Ports of a backend.
 pub const PORTS: usize = 8;
 /// A port's ring page.
@@ -46,6 +48,9 @@ pub enum Abi {
 }
 
 impl Abi {
+    /// Both.
+    pub const ALL: [Abi; 2] = [Abi::Bits64, Abi::Bits32];
+
     /// The body of the node protocol.
     pub fn protocol(self) -> &'static str {
         match self {
@@ -110,6 +115,15 @@ impl Abi {
     }
 }
 
+impl fmt::Display for Abi {
+    fn fmt(&self, f: &mut fmt::Formatter) -> fmt::Result {
+        f.pad(match self {
+            Abi::Bits64 => "64-bit",
+            Abi::Bits32 => "32-bit",
+        })
+    }
+}
+
 /// Reads a little-endian 32-bit number.
 pub fn read_u32(bytes: &[u8], at: usize) -> u32 {
     let mut word = [0; 4];
@@ -142,4 +156,66 @@ pub fn page_mut(rings: &mut [u8], port: usize) -> &mut [u8] {
 /// Where the slot of an index of a 64-bit guest begins (rule 2.4).
 pub fn slot_at(index: u32) -> usize {
     Abi::Bits64.slot_at(index)
+}
+
+#[cfg(test)]
+mod tests {
+    use super::*;
+
+    /// A sheet of entries, whatever they say.
+    fn sheet(entries: &[(u8, &str)]) -> Vec<u8> {
+        let heads = entries
+            .iter()
+            .flat_map(|(node, body)| [*node, 0, body.len() as u8, 0]);
+        let bodies = entries.iter().flat_map(|(_, body)| body.bytes());
+        let count = [entries.len() as u8];
+        count.into_iter().chain(heads).chain(bodies).collect()
+    }
+
+    #[test]
+    fn the_node_protocol_says_the_layout() {
+        for abi in Abi::ALL {
+            let alone = sheet(&[(8, abi.protocol())]);
+            assert_eq!(Abi::of_sheet(&alone), abi);
+            let among = sheet(&[(1, "w"), (7, "2008"), (8, abi.protocol()), (9, "0")]);
+            assert_eq!(Abi::of_sheet(&among), abi);
+        }
+        let absent = sheet(&[(1, "w"), (7, "2008")]);
+        assert_eq!(Abi::of_sheet(&absent), Abi::Bits64);
+        // The word in another node's body says nothing.
+        let other = sheet(&[(1, "x86_32-abi"), (8, "x86_64-abi")]);
+        assert_eq!(Abi::of_sheet(&other), Abi::Bits64);
+    }
+
+    /// No open takes these bytes; they are read without harm.
+    #[test]
+    fn any_bytes_may_stand_for_a_sheet() {
+        let whole = sheet(&[(1, "w"), (8, "x86_32-abi"), (9, "0")]);
+        for end in 0..whole.len() {
+            Abi::of_sheet(&whole[..end]);
+            for byte in [0, 1, 8, 9, 127, 255] {
+                let mut changed = whole.clone();
+                changed[end] = byte;
+                Abi::of_sheet(&changed);
+                Abi::of_sheet(&changed[..=end]);
+            }
+        }
+        Abi::of_sheet(&[255; 2000]);
+    }
+
+    /// The places that rules 2.3 to 2.11 name, in both layouts.
+    #[test]
+    fn places_of_both_layouts() {
+        let places = Abi::ALL.map(|abi| [abi.id_at(), abi.start_at(), abi.segments_at()]);
+        assert_eq!(places, [[8, 16, 24], [4, 12, 20]]);
+        for abi in Abi::ALL {
+            assert_eq!(abi.segments_at() + 8 * EXTENTS, abi.slot_bytes());
+            assert_eq!(abi.response_bytes() + 96, abi.slot_bytes());
+            let last = abi.slot_at(SLOTS as u32 - 1);
+            assert!(last + abi.slot_bytes() <= RING_BYTES);
+        }
+        let slots = Abi::ALL.map(|abi| [0, 1, 31, 32, u32::MAX].map(|index| abi.slot_at(index)));
+        assert_eq!(slots[0], [64, 176, 3536, 64, 3536]);
+        assert_eq!(slots[1], [64, 172, 3412, 64, 3412]);
+    }
 }

@@ -3,10 +3,13 @@
 //! - [`Backend`]: the four calls over private buffers that it owns, with typed answers ([`Turn`],
 //!   [`Plan`], [`Done`]) and refusals as errors ([`Refusal`]).
 //! - [`live`]: the same over ring pages that guests may write at the same time.
-//! - [`Sheet`]: node sheets from a disk's properties.
+//! - [`Sheet`]: node sheets from a disk's properties and its guest's layout ([`Abi`]).
 //! - [`Memory`]: the C functions over slices of any length, for tests and for hosts with buffers of
 //!   their own; its answers are words, which [`words`] names.
-//! - [`layout`]: sizes and places of buffers, pages and slots.
+//! - [`layout`]: sizes and places of buffers, pages and slots, the latter by [`Abi`].
+//!
+//! A guest has 64-bit or 32-bit records; each port is opened for one of the two, and one backend serves
+//! ports of both. A host meets the layout in the sheet alone, unless it reads or writes slots itself.
 //!
 //! What is numbered here goes by the same names as in the C header: [`Refusal`], [`Reason`],
 //! [`Status`], [`Operation`]. Enums that may grow are `non_exhaustive`: a host says what it does

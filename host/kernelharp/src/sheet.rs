@@ -26,7 +26,7 @@ pub struct Sheet {
     pub sector_size: u32,
     /// Node sectors, of 512 bytes whatever the sector size.
     pub sectors: u64,
-    /// Node protocol: how the guest lays out its requests.
+    /// Node protocol: how the guest lays out its requests, as its front end says.
     pub abi: Abi,
 }
 
@@ -59,4 +59,27 @@ fn contents(entries: &[(u8, String)]) -> impl Iterator<Item = u8> + '_ {
         [*node, 0, body.len() as u8, 0]
     });
     std::iter::once(entries.len() as u8).chain(heads)
+}
+
+#[cfg(test)]
+mod tests {
+    use super::*;
+
+    #[test]
+    fn a_sheet_says_its_layout() {
+        let due: [&[u8]; 2] = [
+            b"\x03\x01\0\x01\0\x06\0\x03\0\x07\0\x04\0r5122008",
+            b"\x04\x01\0\x01\0\x06\0\x03\0\x07\0\x04\0\x08\0\x0A\0r5122008x86_32-abi",
+        ];
+        for (abi, due) in Abi::ALL.into_iter().zip(due) {
+            let sheet = Sheet {
+                sector_size: 512,
+                sectors: 2008,
+                abi,
+                ..Sheet::default()
+            };
+            assert_eq!(sheet.bytes(), due);
+            assert_eq!(Abi::of_sheet(due), abi);
+        }
+    }
 }

@@ -4,7 +4,7 @@ use super::SharedPage;
 use crate::answers::{Done, Turn};
 use crate::backend::Backend;
 use crate::ffi::ArchiveMismatch;
-use crate::layout::{PORTS, PORT_GRANTS};
+use crate::layout::{Abi, PORTS, PORT_GRANTS};
 use crate::names::{Name, Port};
 use crate::terms::Refusal;
 use std::sync::atomic::{fence, Ordering};
@@ -31,10 +31,10 @@ impl LiveBackend {
         self.backend.grants_mut(port)
     }
 
-    /// Opens a closed port over a page, which isn't touched.
+    /// Opens a closed port over a page, which isn't touched. The page is laid out as the sheet says.
     pub fn open(&mut self, port: Port, sheet: &[u8], mut page: SharedPage) -> Result<(), Refusal> {
         self.backend.open(port, sheet)?;
-        page.restart(self.backend.page_mut(port));
+        page.restart(Abi::of_sheet(sheet), self.backend.page_mut(port));
         self.pages[port.index()] = Some(page);
         Ok(())
     }

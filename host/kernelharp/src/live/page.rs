@@ -2,8 +2,7 @@
 
 use crate::ffi::{Mapping, WORD_BYTES};
 use crate::layout::{
-    read_u32, slot_at, write_u32, RING_BYTES, REQ_EVENT, REQ_PROD, RESPONSE_BYTES, RSP_EVENT,
-    RSP_PROD, SLOTS, SLOT_BYTES,
+    read_u32, write_u32, Abi, REQ_EVENT, REQ_PROD, RING_BYTES, RSP_EVENT, RSP_PROD, SLOTS,
 };
 use std::sync::atomic::{fence, Ordering};
 
@@ -20,6 +19,8 @@ use std::sync::atomic::{fence, Ordering};
 #[derive(Debug)]
 pub struct SharedPage {
     page: Mapping,
+    /// Where slots lie, and how long they and responses are.
+    abi: Abi,
     /// Requests taken since the opening (rule 4.2).
     req_cons: u32,
     /// Responses given since the opening (rule 4.2).
@@ -30,10 +31,12 @@ pub struct SharedPage {
 }
 
 impl SharedPage {
-    /// The page of a port about to be opened.
+    /// The page of a port about to be opened; a 64-bit guest's, unless [`SharedPage::restart`] says
+    /// otherwise.
     pub fn new(page: Mapping) -> SharedPage {
         SharedPage {
             page,
+            abi: Abi::default(),
             req_cons: 0,
             rsp_prod_pvt: 0,
             copied: 0,
@@ -41,9 +44,10 @@ impl SharedPage {
         }
     }
 
-    /// Counts from 0 again, for a port opened anew. Nothing of an earlier opening stays in the private
-    /// page: a turn before the first copy would serve it.
-    pub fn restart(&mut self, private: &mut [u8; RING_BYTES]) {
+    /// Counts from 0 again, for a port opened anew, in the layout that its sheet says. Nothing of an
+    /// earlier opening stays in the private page: a turn before the first copy would serve it.
+    pub fn restart(&mut self, abi: Abi, private: &mut [u8; RING_BYTES]) {
+        self.abi = abi;
         self.req_cons = 0;
         self.rsp_prod_pvt = 0;
         self.copied = 0;
@@ -94,7 +98,7 @@ impl SharedPage {
     pub fn copy_response_out(&mut self, private: &[u8; RING_BYTES], call_said: bool) -> bool {
         let old = self.rsp_prod_pvt;
         let new = old.wrapping_add(1);
-        for at in words_of(slot_at(old), RESPONSE_BYTES) {
+        for at in words_of(self.abi.slot_at(old), self.abi.response_bytes()) {
             self.copy_word_out(at, private);
         }
         // The response is there before the index that publishes it.
@@ -121,8 +125,8 @@ impl SharedPage {
         // Fewer than were copied when the guest has moved req_prod back.
         let held = self.copied.wrapping_sub(self.req_cons).min(waiting);
         for ahead in held..waiting {
-            let slot = slot_at(self.req_cons.wrapping_add(ahead));
-            for at in words_of(slot, SLOT_BYTES) {
+            let slot = self.abi.slot_at(self.req_cons.wrapping_add(ahead));
+            for at in words_of(slot, self.abi.slot_bytes()) {
                 write_u32(private, at, self.load(at));
             }
         }

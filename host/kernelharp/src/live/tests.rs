@@ -4,30 +4,69 @@
 use super::{LiveBackend, Mapping, SharedPage, RING_WORDS};
 use crate::answers::{Plan, Turn};
 use crate::layout::{
-    read_u32, slot_at, write_u32, RING_BYTES, REQ_EVENT, REQ_PROD, RESPONSE_BYTES, RSP_EVENT,
-    RSP_PROD, SLOT_BYTES,
+    read_u32, write_u32, Abi, REQ_EVENT, REQ_PROD, RING_BYTES, RSP_EVENT, RSP_PROD,
 };
 use crate::names::{Name, Port, Serial, Tag};
+use crate::sheet::Sheet;
 use crate::terms::{Reason, Refusal, Status};
+use std::ops::Range;
 use std::sync::atomic::{AtomicU32, Ordering};
 
-/// Mode w, flush offered, 2,008 sectors of 512 bytes.
-const SHEET: &[u8] = b"\x04\x01\0\x01\0\x03\0\x01\0\x06\0\x03\0\x07\0\x04\0w15122008";
 const PATTERN: u8 = 0xA5;
 const FLUSH: u8 = 3;
 const UNKNOWN: u8 = 9;
 
+/// Runs each of the tests named in both layouts.
+macro_rules! in_both_layouts {
+    ($($test:ident)*) => {
+        $(
+            mod $test {
+                use crate::layout::Abi;
+
+                #[test]
+                fn bits64() {
+                    super::$test(Abi::Bits64);
+                }
+
+                #[test]
+                fn bits32() {
+                    super::$test(Abi::Bits32);
+                }
+            }
+        )*
+    };
+}
+
+in_both_layouts! {
+    only_new_requests_and_two_indices_are_copied_in
+    a_waiting_request_is_not_copied_again
+    a_req_prod_moved_back_takes_its_requests_back
+    an_overrun_drawn_back_leaves_nothing_copied
+    an_overrun_drawn_back_serves_the_page_as_it_is
+    no_request_is_copied_beyond_the_ring
+    a_response_leaves_what_the_guest_wrote_meanwhile
+    rsp_event_is_looked_at_again
+    an_idle_turn_writes_req_event_alone
+    turns_and_completions_through_a_live_page
+    a_broken_port_is_neither_read_nor_armed_but_completes
+    every_slot_comes_round
+    nothing_of_the_other_layout_stays
+    a_port_opened_anew_has_the_layout_of_its_new_sheet
+}
+
 /// A guest with its page.
 struct Guest {
     page: &'static [AtomicU32; RING_WORDS],
+    abi: Abi,
 }
 
 impl Guest {
     /// A page of the pattern with all indices 0.
-    fn new() -> Guest {
+    fn new(abi: Abi) -> Guest {
         let pattern = || AtomicU32::new(u32::from_ne_bytes([PATTERN; 4]));
         let guest = Guest {
             page: Box::leak(Box::new(std::array::from_fn(|_| pattern()))),
+            abi,
         };
         for at in [REQ_PROD, REQ_EVENT, RSP_PROD, RSP_EVENT] {
             guest.set(at, 0);
@@ -35,8 +74,47 @@ impl Guest {
         guest
     }
 
+    /// The same page in the hands of a guest of the other layout.
+    fn other(&self) -> Guest {
+        let [one, other] = Abi::ALL;
+        let abi = if self.abi == one { other } else { one };
+        Guest { abi, ..*self }
+    }
+
     fn share(&self) -> SharedPage {
         SharedPage::new(Mapping::of_atomics(self.page))
+    }
+
+    /// The page and its private one, as they are when the port was opened.
+    fn opened(&self) -> (SharedPage, [u8; RING_BYTES]) {
+        let (mut shared, mut private) = (self.share(), [PATTERN; RING_BYTES]);
+        shared.restart(self.abi, &mut private);
+        (shared, private)
+    }
+
+    /// Mode w, flush offered, 2,008 sectors of 512 bytes.
+    fn sheet(&self) -> Vec<u8> {
+        let sheet = Sheet {
+            writable: true,
+            flush: true,
+            sector_size: 512,
+            sectors: 2008,
+            abi: self.abi,
+            ..Sheet::default()
+        };
+        sheet.bytes()
+    }
+
+    /// The bytes of an index's slot within the page.
+    fn slot(&self, index: u32) -> Range<usize> {
+        let at = self.abi.slot_at(index);
+        at..at + self.abi.slot_bytes()
+    }
+
+    /// Those that a response has.
+    fn response(&self, index: u32) -> Range<usize> {
+        let at = self.abi.slot_at(index);
+        at..at + self.abi.response_bytes()
     }
 
     /// Writes whole words, from a multiple of four on.
@@ -62,10 +140,10 @@ impl Guest {
 
     /// Puts a request of no segments at an index.
     fn put(&self, index: u32, operation: u8) {
-        let mut slot = [0; SLOT_BYTES];
+        let mut slot = vec![0; self.abi.slot_bytes()];
         slot[0] = operation;
-        slot[8] = index as u8;
-        self.write(slot_at(index), &slot);
+        slot[self.abi.id_at()] = index as u8;
+        self.write(self.abi.slot_at(index), &slot);
     }
 
     /// Puts a request and publishes it.
@@ -88,10 +166,16 @@ fn port(number: u32) -> Port {
 }
 
 /// A backend with port 2 open over a guest's page.
-fn opened() -> (LiveBackend, Guest) {
-    let (mut backend, guest) = (LiveBackend::new().unwrap(), Guest::new());
-    backend.open(port(2), SHEET, guest.share()).unwrap();
+fn opened(abi: Abi) -> (LiveBackend, Guest) {
+    let (mut backend, guest) = (LiveBackend::new().unwrap(), Guest::new(abi));
+    let page = guest.share();
+    backend.open(port(2), &guest.sheet(), page).unwrap();
     (backend, guest)
+}
+
+/// The operations of the requests in a private page, from index 0 on.
+fn operations<const COUNT: usize>(guest: &Guest, private: &[u8; RING_BYTES]) -> [u8; COUNT] {
+    std::array::from_fn(|index| private[guest.abi.slot_at(index as u32)])
 }
 
 fn started(turn: Turn) -> Plan {
@@ -101,31 +185,28 @@ fn started(turn: Turn) -> Plan {
     }
 }
 
-#[test]
-fn only_new_requests_and_two_indices_are_copied_in() {
-    let guest = Guest::new();
-    let mut shared = guest.share();
-    let mut private = [0; RING_BYTES];
-    guest.write(slot_at(0), &[7; SLOT_BYTES]);
-    guest.write(slot_at(1), &[8; SLOT_BYTES]);
+fn only_new_requests_and_two_indices_are_copied_in(abi: Abi) {
+    let guest = Guest::new(abi);
+    let (mut shared, mut private) = guest.opened();
+    let mut due = private;
+    for index in 0..2 {
+        let slot = vec![7 + index as u8; abi.slot_bytes()];
+        guest.write(abi.slot_at(index), &slot);
+        due[guest.slot(index)].copy_from_slice(&slot);
+    }
     guest.set(REQ_PROD, 2);
     guest.set(REQ_EVENT, 55);
     guest.set(RSP_PROD, 66);
     guest.set(RSP_EVENT, 77);
     shared.copy_in(&mut private);
-    let mut due = [0; RING_BYTES];
     write_u32(&mut due, REQ_PROD, 2);
     write_u32(&mut due, RSP_EVENT, 77);
-    due[slot_at(0)..][..SLOT_BYTES].fill(7);
-    due[slot_at(1)..][..SLOT_BYTES].fill(8);
     assert_eq!(private, due);
 }
 
-#[test]
-fn a_waiting_request_is_not_copied_again() {
-    let guest = Guest::new();
-    let mut shared = guest.share();
-    let mut private = [0; RING_BYTES];
+fn a_waiting_request_is_not_copied_again(abi: Abi) {
+    let guest = Guest::new(abi);
+    let (mut shared, mut private) = guest.opened();
     guest.post(0, 1);
     guest.post(1, 1);
     shared.copy_in(&mut private);
@@ -133,14 +214,12 @@ fn a_waiting_request_is_not_copied_again() {
     guest.put(1, 2);
     guest.post(2, 2);
     shared.copy_in(&mut private);
-    assert_eq!([0, 1, 2].map(|index| private[slot_at(index)]), [1, 1, 2]);
+    assert_eq!(operations(&guest, &private), [1, 1, 2]);
 }
 
-#[test]
-fn a_req_prod_moved_back_takes_its_requests_back() {
-    let guest = Guest::new();
-    let mut shared = guest.share();
-    let mut private = [0; RING_BYTES];
+fn a_req_prod_moved_back_takes_its_requests_back(abi: Abi) {
+    let guest = Guest::new(abi);
+    let (mut shared, mut private) = guest.opened();
     for index in 0..3 {
         guest.post(index, 1);
     }
@@ -151,16 +230,14 @@ fn a_req_prod_moved_back_takes_its_requests_back() {
         guest.post(index, 2);
     }
     shared.copy_in(&mut private);
-    assert_eq!([0, 1, 2].map(|index| private[slot_at(index)]), [1, 2, 2]);
+    assert_eq!(operations(&guest, &private), [1, 2, 2]);
 }
 
 /// What waits when req_prod was beyond the ring and has come back is what the page holds then, not
 /// what it held before.
-#[test]
-fn an_overrun_drawn_back_leaves_nothing_copied() {
-    let guest = Guest::new();
-    let mut shared = guest.share();
-    let mut private = [0; RING_BYTES];
+fn an_overrun_drawn_back_leaves_nothing_copied(abi: Abi) {
+    let guest = Guest::new(abi);
+    let (mut shared, mut private) = guest.opened();
     for index in 0..2 {
         guest.post(index, 1);
     }
@@ -171,15 +248,15 @@ fn an_overrun_drawn_back_leaves_nothing_copied() {
         guest.post(index, 2);
     }
     shared.copy_in(&mut private);
-    assert_eq!([0, 1].map(|index| private[slot_at(index)]), [2, 2]);
+    assert_eq!(operations(&guest, &private), [2, 2]);
 }
 
-/// The same by turns: while port 2 is beyond the ring, port 1 is served.
-#[test]
-fn an_overrun_drawn_back_serves_the_page_as_it_is() {
-    let (mut backend, guest) = opened();
-    let other = Guest::new();
-    backend.open(port(1), SHEET, other.share()).unwrap();
+/// The same by turns: while port 2 is beyond the ring, port 1 is served, a guest of the other layout.
+fn an_overrun_drawn_back_serves_the_page_as_it_is(abi: Abi) {
+    let (mut backend, guest) = opened(abi);
+    let other = Guest::new(guest.other().abi);
+    let page = other.share();
+    backend.open(port(1), &other.sheet(), page).unwrap();
     other.post(0, FLUSH);
     guest.post(0, FLUSH);
     assert_eq!(started(backend.turn()).name.port, port(1));
@@ -200,46 +277,59 @@ fn an_overrun_drawn_back_serves_the_page_as_it_is() {
     assert_eq!((at, reason), (port(2), Reason::UnknownOperation));
 }
 
-#[test]
-fn no_request_is_copied_beyond_the_ring() {
+fn no_request_is_copied_beyond_the_ring(abi: Abi) {
     for (req_prod, copied) in [(32, true), (33, false), (u32::MAX, false)] {
-        let guest = Guest::new();
-        let mut private = [0; RING_BYTES];
+        let guest = Guest::new(abi);
+        let (mut shared, mut private) = guest.opened();
         guest.set(REQ_PROD, req_prod);
-        guest.share().copy_in(&mut private);
-        let slots = &private[slot_at(0)..slot_at(31) + SLOT_BYTES];
+        shared.copy_in(&mut private);
+        let (slots, behind) = private[guest.slot(0).start..].split_at(32 * abi.slot_bytes());
         let due = if copied { PATTERN } else { 0 };
         assert!(slots.iter().all(|&byte| byte == due), "{req_prod}");
+        assert!(behind.iter().all(|&byte| byte == 0), "{req_prod}");
     }
 }
 
-#[test]
-fn a_response_leaves_what_the_guest_wrote_meanwhile() {
-    let guest = Guest::new();
-    let mut shared = guest.share();
-    let mut private = [0; RING_BYTES];
+fn a_response_leaves_what_the_guest_wrote_meanwhile(abi: Abi) {
+    let guest = Guest::new(abi);
+    let (mut shared, mut private) = guest.opened();
     guest.post(0, UNKNOWN);
     shared.copy_in(&mut private);
     // The call's part: the response in slot 0, and rsp_prod.
     shared.took_request();
-    private[slot_at(0)..][..RESPONSE_BYTES].fill(0xEE);
+    private[guest.response(0)].fill(0xEE);
     write_u32(&mut private, RSP_PROD, 1);
     // The guest's part, after the copying in.
     guest.post(1, FLUSH);
-    guest.write(
-        slot_at(0) + RESPONSE_BYTES,
-        &[0x11; SLOT_BYTES - RESPONSE_BYTES],
-    );
+    guest.write(guest.response(0).end, &[0x11; 96]);
     guest.set(REQ_EVENT, 99);
     let mut due = guest.bytes();
-    due[slot_at(0)..][..RESPONSE_BYTES].fill(0xEE);
+    due[guest.response(0)].fill(0xEE);
     write_u32(&mut due, RSP_PROD, 1);
     assert!(!shared.copy_response_out(&private, false));
     assert_eq!(guest.bytes(), due);
 }
 
+/// Of a private page whose bytes are all others than the guest's, a response's bytes go out.
 #[test]
-fn rsp_event_is_looked_at_again() {
+fn responses_by_the_numbers_of_the_rules() {
+    for (abi, slot_bytes, response_bytes) in [(Abi::Bits64, 112, 16), (Abi::Bits32, 108, 12)] {
+        let guest = Guest::new(abi);
+        let (mut shared, private) = (guest.opened().0, [0xEE; RING_BYTES]);
+        for index in 0..64 {
+            let slot = 64 + slot_bytes * (index % 32);
+            guest.write(RSP_PROD, &[PATTERN; 4]);
+            guest.write(slot, &vec![PATTERN; slot_bytes]);
+            let before = guest.bytes();
+            let _ = shared.copy_response_out(&private, false);
+            let response = slot..slot + response_bytes;
+            let due: Vec<usize> = (RSP_PROD..RSP_PROD + 4).chain(response).collect();
+            assert_eq!(guest.changed(&before), due, "{abi}, response {index}");
+        }
+    }
+}
+
+fn rsp_event_is_looked_at_again(abi: Abi) {
     for (event, said, due) in [
         (0, false, false),
         (1, false, true),
@@ -247,18 +337,17 @@ fn rsp_event_is_looked_at_again() {
         (2, true, true),
         (u32::MAX, false, false),
     ] {
-        let guest = Guest::new();
-        let mut shared = guest.share();
+        let guest = Guest::new(abi);
+        let (mut shared, private) = guest.opened();
         // The guest goes to sleep after the call has looked.
         guest.set(RSP_EVENT, event);
-        let told = shared.copy_response_out(&[0; RING_BYTES], said);
+        let told = shared.copy_response_out(&private, said);
         assert_eq!(told, due, "rsp_event {event}, the call said {said}");
     }
 }
 
-#[test]
-fn an_idle_turn_writes_req_event_alone() {
-    let (mut backend, guest) = opened();
+fn an_idle_turn_writes_req_event_alone(abi: Abi) {
+    let (mut backend, guest) = opened(abi);
     guest.set(REQ_EVENT, 0x0202_0202);
     let before = guest.bytes();
     assert_eq!(backend.turn(), Turn::Idle);
@@ -266,9 +355,8 @@ fn an_idle_turn_writes_req_event_alone() {
     assert_eq!(guest.changed(&before), [4, 5, 6, 7]);
 }
 
-#[test]
-fn turns_and_completions_through_a_live_page() {
-    let (mut backend, guest) = opened();
+fn turns_and_completions_through_a_live_page(abi: Abi) {
+    let (mut backend, guest) = opened(abi);
     guest.post(0, UNKNOWN);
     guest.post(1, FLUSH);
     guest.set(RSP_EVENT, 2);
@@ -296,8 +384,8 @@ fn turns_and_completions_through_a_live_page() {
     let done = backend.complete(plan.name, result).unwrap();
     assert_eq!((done.status, done.notify), (Status::Okay, true));
     assert_eq!(guest.get(RSP_PROD), 2);
-    assert_eq!(guest.bytes()[slot_at(1)..][..RESPONSE_BYTES], {
-        let mut response = [0; RESPONSE_BYTES];
+    assert_eq!(guest.bytes()[guest.response(1)], {
+        let mut response = vec![0; abi.response_bytes()];
         (response[0], response[8]) = (1, FLUSH);
         response
     });
@@ -305,9 +393,8 @@ fn turns_and_completions_through_a_live_page() {
     assert_eq!(guest.get(REQ_EVENT), 3);
 }
 
-#[test]
-fn a_broken_port_is_neither_read_nor_armed_but_completes() {
-    let (mut backend, guest) = opened();
+fn a_broken_port_is_neither_read_nor_armed_but_completes(abi: Abi) {
+    let (mut backend, guest) = opened(abi);
     guest.post(0, FLUSH);
     let plan = started(backend.turn());
     guest.set(REQ_PROD, 33);
@@ -323,7 +410,7 @@ fn a_broken_port_is_neither_read_nor_armed_but_completes() {
     // Opened anew over the same page, all counts start from 0.
     guest.set(RSP_PROD, 0);
     guest.post(0, FLUSH);
-    backend.open(port(2), SHEET, page).unwrap();
+    backend.open(port(2), &guest.sheet(), page).unwrap();
     assert_eq!(started(backend.turn()).name.serial, Serial(0));
 }
 
@@ -340,9 +427,8 @@ fn a_closed_port_has_no_page() {
     assert_eq!(backend.turn(), Turn::Idle);
 }
 
-#[test]
-fn every_slot_comes_round() {
-    let (mut backend, guest) = opened();
+fn every_slot_comes_round(abi: Abi) {
+    let (mut backend, guest) = opened(abi);
     for index in 0..100 {
         guest.set(RSP_EVENT, index + 1);
         guest.post(index, FLUSH);
@@ -351,6 +437,64 @@ fn every_slot_comes_round() {
         let done = backend.complete(plan.name, 0);
         assert!(done.unwrap().notify);
         assert_eq!(guest.get(RSP_PROD), index + 1);
-        assert_eq!(guest.bytes()[slot_at(index)], index as u8);
+        assert_eq!(guest.bytes()[abi.slot_at(index)], index as u8);
     }
+}
+
+/// Requests copied, taken and answered in one layout leave nothing for a port opened in the other.
+fn nothing_of_the_other_layout_stays(abi: Abi) {
+    let earlier = Guest::new(abi).other();
+    let (mut shared, mut private) = earlier.opened();
+    for index in 0..3 {
+        earlier.post(index, 1);
+    }
+    shared.copy_in(&mut private);
+    shared.took_request();
+    let _ = shared.copy_response_out(&private, false);
+    shared.overran();
+
+    let guest = earlier.other();
+    shared.restart(abi, &mut private);
+    assert_eq!(private, [0; RING_BYTES]);
+    guest.post(0, 2);
+    shared.copy_in(&mut private);
+    let slot = guest.slot(0);
+    assert_eq!(private[slot.clone()], guest.bytes()[slot.clone()]);
+    assert_eq!(private[slot.end..], [0; RING_BYTES][slot.end..]);
+
+    private.fill(0xEE);
+    let mut due = guest.bytes();
+    due[guest.response(0)].fill(0xEE);
+    due[RSP_PROD..RSP_PROD + 4].fill(0xEE);
+    let _ = shared.copy_response_out(&private, false);
+    assert_eq!(guest.bytes(), due);
+}
+
+/// The same by calls: the guest connects again over its page, in the other layout.
+fn a_port_opened_anew_has_the_layout_of_its_new_sheet(abi: Abi) {
+    let (mut backend, guest) = opened(abi);
+    for index in 0..3 {
+        guest.post(index, FLUSH);
+        let plan = started(backend.turn());
+        backend.complete(plan.name, 0).map(drop).unwrap();
+    }
+    let page = backend.close(port(2)).unwrap();
+    let guest = guest.other();
+    guest.set(RSP_PROD, 0);
+    for index in 0..2 {
+        guest.post(index, FLUSH);
+    }
+    backend.open(port(2), &guest.sheet(), page).unwrap();
+    for index in 0..2 {
+        let plan = started(backend.turn());
+        assert_eq!(plan.name.serial, Serial(index));
+        let mut due = guest.bytes();
+        due[guest.response(index)].fill(0);
+        due[guest.response(index).start] = index as u8;
+        due[guest.response(index).start + 8] = FLUSH;
+        write_u32(&mut due, RSP_PROD, index + 1);
+        backend.complete(plan.name, 0).map(drop).unwrap();
+        assert_eq!(guest.bytes(), due);
+    }
+    assert_eq!(backend.turn(), Turn::Idle);
 }
