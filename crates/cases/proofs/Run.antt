@@ -31,13 +31,25 @@ use Rattle.model.specs.declared.Status.{Status}
 abbrev sheet : List ℕ
 sheet = 0x03 ∷ 0x01 ∷ 0x00 ∷ 0x01 ∷ 0x00 ∷ 0x06 ∷ 0x00 ∷ 0x03 ∷ 0x00 ∷ 0x07 ∷ 0x00 ∷ 0x04 ∷ 0x00 ∷ 0x77 ∷ 0x35 ∷ 0x31 ∷ 0x32 ∷ 0x32 ∷ 0x30 ∷ 0x30 ∷ 0x38 ∷ []
 
--- a page: req_prod, rsp_event 2, and in slot i an operation with an id on one segment, sectors 0 to 7 of frame 5, at a start sector
-page : ℕ → ℕ → ℕ → ℕ → ℕ → List ℕ
-page produced i operation id start =
-    let at = 64 + 112 * i in
+-- the same with the protocol "x86_32-abi"
+abbrev sheet32 : List ℕ
+sheet32 = 0x04 ∷ 0x01 ∷ 0x00 ∷ 0x01 ∷ 0x00 ∷ 0x06 ∷ 0x00 ∷ 0x03 ∷ 0x00 ∷ 0x07 ∷ 0x00 ∷ 0x04 ∷ 0x00 ∷ 0x08 ∷ 0x00 ∷ 0x0a ∷ 0x00 ∷ 0x77 ∷ 0x35 ∷ 0x31 ∷ 0x32 ∷ 0x32 ∷ 0x30 ∷ 0x30 ∷ 0x38 ∷ 0x78 ∷ 0x38 ∷ 0x36 ∷ 0x5f ∷ 0x33 ∷ 0x32 ∷ 0x2d ∷ 0x61 ∷ 0x62 ∷ 0x69 ∷ []
+
+-- a page of slots of some bytes, with the id at a place: req_prod, rsp_event 2, and in slot i an operation on one segment, sectors 0 to 7 of frame 5, at a
+-- start sector
+page : ℕ → ℕ → ℕ → ℕ → ℕ → ℕ → ℕ → List ℕ
+page bytes idAt produced i operation id start =
+    let at = 64 + bytes * i in
     let header = store 4 (store 4 (replicate 4096 0) 0 produced) 12 2 in
-    let request = store 8 (store 8 (store 1 (store 1 header at operation) (at + 1) 1) (at + 8) id) (at + 16) start in
-    store 1 (store 4 request (at + 24) 5) (at + 29) 7
+    let request = store 8 (store 8 (store 1 (store 1 header at operation) (at + 1) 1) (at + idAt) id) (at + idAt + 8) start in
+    store 1 (store 4 request (at + idAt + 16) 5) (at + idAt + 21) 7
+
+-- in the two layouts
+abbrev page64 : ℕ → ℕ → ℕ → ℕ → ℕ → List ℕ
+page64 = page 112 8
+
+abbrev page32 : ℕ → ℕ → ℕ → ℕ → ℕ → List ℕ
+page32 = page 108 4
 
 -- every frame of every port may be read and written
 grants : List ℕ
@@ -50,30 +62,30 @@ words = replicate 44 9
 rings : List ℕ → List ℕ → List ℕ
 rings two three = replicate 8192 0 ++ (two ++ (three ++ replicate 16384 0))
 
--- a read of port 2 and a write of port 3 wait
+-- a read of port 2, whose guest has 32 bits, and a write of port 3, whose guest has 64, wait
 both : List ℕ
-both = rings (page 1 0 0 0x21 2000) (page 1 0 1 0x31 2000)
+both = rings (page32 1 0 0 0x21 2000) (page64 1 0 1 0x31 2000)
 
 -- port 2 has an unknown operation waiting, after its read
 unknown : List ℕ
-unknown = rings (page 2 1 9 0x22 0) (page 1 0 1 0x31 2000)
+unknown = rings (page32 2 1 9 0x22 0) (page64 1 0 1 0x31 2000)
 
 -- port 2 has another one waiting, and port 3's req_prod says too much
 overfull : List ℕ
-overfull = rings (page 3 2 9 0x24 0) (page 50 0 0 0 0)
+overfull = rings (page32 3 2 9 0x24 0) (page64 50 0 0 0 0)
 
--- port 2, opened once more, has a request waiting
+-- port 2, opened once more and for a 64-bit guest, has a request waiting
 again : List ℕ
-again = rings (page 1 0 0 0x23 2000) (page 50 0 0 0 0)
+again = rings (page64 1 0 0 0x23 2000) (page64 50 0 0 0 0)
 
 -- ---- a history
 
 -- every kind of event up to a close, each refusal of a call among them
 earlier : List Call
 earlier =
-    Open (portId 2) sheet
+    Open (portId 2) sheet32
     ∷ Open (portId 3) sheet
-    ∷ Open (portId 3) sheet
+    ∷ Open (portId 3) sheet32
     ∷ Open (portId 8) sheet
     -- an empty sheet; a node that does not rise; a text that is no mode; a number that is no sector size; nodes missing
     ∷ Open (portId 4) []
@@ -235,33 +247,40 @@ computed = refl
 
 -- ---- bytes of the rings
 
--- the rings with a request in slot 0 of port 3's page, at a start sector
+-- the rings with a request of port 3 waiting in slot 0, at a start sector
 lent : ℕ → ℕ → List ℕ
-lent produced start = rings (replicate 4096 0) (page produced 0 0 0x1122334455667788 start)
+lent produced start = rings (replicate 4096 0) (page64 produced 0 0 0x1122334455667788 start)
 
--- the backend with port 3 open, and a turn on it
-opened : Backend
-opened = afterCall emptyBackend (Open (portId 3) sheet)
+-- the same of a 32-bit guest
+lent32 : ℕ → List ℕ
+lent32 start = rings (replicate 4096 0) (page32 1 0 0 0x1122334455667788 start)
 
-abbrev turn : List ℕ → Effect (Turn [] [] [])
-turn r = turned (viewOf opened) r grants
+-- the backend with port 3 open by a sheet, and a turn on it
+opened : List ℕ → Backend
+opened s = afterCall emptyBackend (Open (portId 3) s)
+
+abbrev turn : List ℕ → List ℕ → Effect (Turn [] [] [])
+turn s r = turned (viewOf (opened s)) r grants
 
 -- n bytes of the page that a turn left of port 3
-wrote : List ℕ → ℕ → ℕ → List ℕ
-wrote r at n = part n (turn r .rings) (4096 * 3 + at)
+wrote : List ℕ → List ℕ → ℕ → ℕ → List ℕ
+wrote s r at n = part n (turn s r .rings) (4096 * 3 + at)
 
 -- ---- what is computed
 
 record Bytes : Type 0 where
   -- a refused read: id, operation, status -1 and padding; the slot's other bytes stay, here the start sector, 2001
-  response : wrote (lent 1 2001) 64 24 ≡
+  response : wrote sheet (lent 1 2001) 64 24 ≡
       0x88 ∷ 0x77 ∷ 0x66 ∷ 0x55 ∷ 0x44 ∷ 0x33 ∷ 0x22 ∷ 0x11 ∷ 0x00 ∷ 0x00 ∷ 0xff ∷ 0xff ∷ 0x00 ∷ 0x00 ∷ 0x00 ∷ 0x00 ∷ 0xd1 ∷ 0x07 ∷ 0 ∷ 0 ∷ 0 ∷ 0 ∷ 0 ∷ 0 ∷ []
+  -- a 32-bit guest's, without padding: the start sector is the slot's next byte, and the segment's frame follows
+  response32 : wrote sheet32 (lent32 2001) 64 24 ≡
+      0x88 ∷ 0x77 ∷ 0x66 ∷ 0x55 ∷ 0x44 ∷ 0x33 ∷ 0x22 ∷ 0x11 ∷ 0x00 ∷ 0x00 ∷ 0xff ∷ 0xff ∷ 0xd1 ∷ 0x07 ∷ 0 ∷ 0 ∷ 0 ∷ 0 ∷ 0 ∷ 0 ∷ 5 ∷ 0 ∷ 0 ∷ 0 ∷ []
   -- req_prod, req_event, rsp_prod, rsp_event after a response, and after an idle turn
-  answeredHeader : wrote (lent 1 2001) 0 16 ≡ 1 ∷ 0 ∷ 0 ∷ 0 ∷ 0 ∷ 0 ∷ 0 ∷ 0 ∷ 1 ∷ 0 ∷ 0 ∷ 0 ∷ 2 ∷ 0 ∷ 0 ∷ 0 ∷ []
-  idleHeader : wrote (lent 0 0) 0 16 ≡ 0 ∷ 0 ∷ 0 ∷ 0 ∷ 1 ∷ 0 ∷ 0 ∷ 0 ∷ 0 ∷ 0 ∷ 0 ∷ 0 ∷ 2 ∷ 0 ∷ 0 ∷ 0 ∷ []
+  answeredHeader : wrote sheet (lent 1 2001) 0 16 ≡ 1 ∷ 0 ∷ 0 ∷ 0 ∷ 0 ∷ 0 ∷ 0 ∷ 0 ∷ 1 ∷ 0 ∷ 0 ∷ 0 ∷ 2 ∷ 0 ∷ 0 ∷ 0 ∷ []
+  idleHeader : wrote sheet (lent 0 0) 0 16 ≡ 0 ∷ 0 ∷ 0 ∷ 0 ∷ 1 ∷ 0 ∷ 0 ∷ 0 ∷ 0 ∷ 0 ∷ 0 ∷ 0 ∷ 2 ∷ 0 ∷ 0 ∷ 0 ∷ []
   -- the one extent of a start: frame 5, from its sector 0, eight sectors, at disk sector 2000; ten unused ones
-  extents : turn (lent 1 2000) .words ≡ 5 ∷ 0 ∷ 8 ∷ 2000 ∷ replicate 40 0
+  extents : turn sheet (lent 1 2000) .words ≡ 5 ∷ 0 ∷ 8 ∷ 2000 ∷ replicate 40 0
 
 bytes : Bytes
-unfolding lent opened wrote page rings grants words load store part setPart all same least tally pageOf setPage grantsOf reqProd setReqEvent setRspProd rspEvent ringFor slotAt slotOf segmentOf segmentsOf requestOf setResponse entryAt bodyLength entriesFrom entriesOf bodiesEnd wellFormed rising isDigit digitsFrom capped digitsOf numberOf choiceBody numberBody isSectorSize isAllowed bodyOf afterBody afterBodies valueOf absent valuesOf present paramsOf hasRequired sheetOf isBusy inFlightOf lowestFree distance pendingOf asksSecure isEmptyBarrier movesNothing sectorsIn totalSectors countOf isAligned isGranted unknownOperation featureOff secureOff readOnly wrongAmount isWithinFrame wrongSegment notGranted pastEnd unaligned operationChecks segmentChecks diskChecks checks extentsFrom extentsOf extentWords wordsBeside planOf verdictOf pendingAt hasWork passedOver armed idle responded respondedAt notifies requestAt settled overran servedBy turned expectedOf statusOf completed openedBy dueOpen dueClose dueTurn namesNone refusedCompletion dueComplete effectDue viewOf withPort withTag withPointer does next
-bytes = record { response = refl; answeredHeader = refl; idleHeader = refl; extents = refl }
+unfolding lent lent32 opened wrote page rings grants words load store part setPart all same least tally pageOf setPage grantsOf reqProd setReqEvent setRspProd rspEvent ringFor slotAt slotOf segmentOf segmentsOf requestOf setResponse entryAt bodyLength entriesFrom entriesOf bodiesEnd wellFormed rising isDigit digitsFrom capped digitsOf numberOf choiceBody numberBody isSectorSize isAllowed bodyOf afterBody afterBodies valueOf absent valuesOf present paramsOf hasRequired sheetOf isBusy inFlightOf lowestFree distance pendingOf asksSecure isEmptyBarrier movesNothing sectorsIn totalSectors countOf isAligned isGranted unknownOperation featureOff secureOff readOnly wrongAmount isWithinFrame wrongSegment notGranted pastEnd unaligned operationChecks segmentChecks diskChecks checks extentsFrom extentsOf extentWords wordsBeside planOf verdictOf pendingAt hasWork passedOver armed idle responded respondedAt notifies requestAt settled overran servedBy turned expectedOf statusOf completed openedBy dueOpen dueClose dueTurn namesNone refusedCompletion dueComplete effectDue viewOf withPort withTag withPointer does next
+bytes = record { response = refl; response32 = refl; answeredHeader = refl; idleHeader = refl; extents = refl }
