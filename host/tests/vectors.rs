@@ -60,11 +60,11 @@ fn status(word: &str) -> Status {
     }
 }
 
-/// A layout by its bits, and as the second program has it.
-fn layout(bits: &str) -> (Abi, Layout) {
+/// A layout by its bits.
+fn layout(bits: &str) -> Abi {
     match bits {
-        "64" => (Abi::Bits64, Layout::BITS_64),
-        "32" => (Abi::Bits32, Layout::BITS_32),
+        "64" => Abi::Bits64,
+        "32" => Abi::Bits32,
         _ => panic!("{bits} is no layout"),
     }
 }
@@ -189,10 +189,10 @@ fn responses() {
             panic!("four words: {given:?}")
         };
         let due = bytes(due.split_whitespace());
-        let (abi, layout) = layout(bits);
+        let abi = layout(bits);
         let id = u64::from_str_radix(id, 16).expect("a hex id");
-        let response = response_bytes(&layout, id, number(operation), status(code));
-        assert_eq!(response, due);
+        let response = response_bytes(id, number(operation), status(code));
+        assert_eq!(response[..abi.response_bytes()], due);
         // The same by a call: a read of no segments is answered with -1.
         assert_eq!((operation, code), ("0", "-1"));
         let mut bench = Bench::open(&usual_sheet_of(abi));
@@ -319,7 +319,7 @@ fn request_vectors() {
 fn record_vectors() {
     for (given, due) in lines(RECORDS) {
         let (bits, slot) = given.split_once(':').expect("bits and a slot");
-        let (abi, slot) = (layout(bits).0, bytes(slot.split_whitespace()));
+        let (abi, slot) = (layout(bits), bytes(slot.split_whitespace()));
         assert_eq!(slot.len(), abi.slot_bytes(), "{given}");
         let (words, response) = due.split_once(" : ").expect("words and a response");
         let response = bytes(response.split_whitespace());

@@ -153,11 +153,6 @@ pub fn page_mut(rings: &mut [u8], port: usize) -> &mut [u8] {
     &mut rings[RING_BYTES * port..][..RING_BYTES]
 }
 
-/// Where the slot of an index of a 64-bit guest begins (rule 2.4).
-pub fn slot_at(index: u32) -> usize {
-    Abi::Bits64.slot_at(index)
-}
-
 #[cfg(test)]
 mod tests {
     use super::*;

@@ -1,7 +1,7 @@
 //! What a ring page says and is told: the backlog of a port (rules 4.11 and 4.12), responses (rules 6.1
 //! to 6.5).
 
-use crate::layout::{Layout, SLOTS};
+use crate::layout::SLOTS;
 use crate::terms::Status;
 
 /// What a port's req_prod says.
@@ -27,9 +27,9 @@ pub fn backlog(req_prod: u32, taken: u32, in_flight: u32) -> Backlog {
     }
 }
 
-/// Rule 2.10: the bytes of a response. What a layout has behind the status is zeros.
-pub fn response_bytes(layout: &Layout, id: u64, operation: u8, status: Status) -> Vec<u8> {
-    let mut response = vec![0; layout.response_bytes];
+/// Rule 2.10: the bytes of a response, of which a layout has the first 16 or 12. What it has behind the status is zeros.
+pub fn response_bytes(id: u64, operation: u8, status: Status) -> [u8; 16] {
+    let mut response = [0; 16];
     response[0..8].copy_from_slice(&id.to_le_bytes());
     response[8] = operation;
     response[10..12].copy_from_slice(&(status as i16).to_le_bytes());

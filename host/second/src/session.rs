@@ -120,8 +120,8 @@ impl Session {
     /// Rules 6.1 to 6.5: the response in its slot, rsp_prod, and whether to notify.
     pub fn respond(&mut self, page: &mut [u8], id: u64, operation: u8, status: Status) -> bool {
         let layout = &self.disk.layout;
-        let response = response_bytes(layout, id, operation, status);
-        page[layout.slot_at(self.answered)..][..response.len()].copy_from_slice(&response);
+        let response = &response_bytes(id, operation, status)[..layout.response_bytes];
+        page[layout.slot_at(self.answered)..][..response.len()].copy_from_slice(response);
         self.answered = self.answered.wrapping_add(1);
         write_u32(page, RSP_PROD, self.answered);
         read_u32(page, RSP_EVENT) == self.answered
