@@ -29,7 +29,7 @@ pub const REQUEST_OPERATION: usize = 0;
 
 pub const REQUEST_COUNT: usize = 1;
 
-// A request's bytes before its id, of which the last two are its handle in every layout (rule 2.5), and those from its id on.
+// The bytes that a request of any layout begins with: operation, count or flag, handle (rules 2.5 and 2.8); and those from its id on.
 pub const HEAD_BYTES: usize = 4;
 
 pub const REST_BYTES: usize = 104;

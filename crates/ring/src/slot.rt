@@ -36,8 +36,8 @@ fn copy_bytes(rings: &[u8], from: usize, copy: &mut [u8], to: usize, n: usize)
     }
 }
 
-// The request in the slot that starts at `at` of the rings, in the layout that every copy has: look at the copy after that. In two pieces, since the id
-// stands elsewhere in it. No byte of the slot is read twice, and none behind it; a 64-bit slot's four bytes before the id are not read at all.
+// The request in the slot that starts at `at` of the rings, in the layout that every copy has: look at the copy after that. It is copied in two pieces, since
+// the id may stand elsewhere in the slot. No byte is read twice, none behind the slot, and of a 64-bit guest's not the four before its id.
 pub fn copy_slot(rings: &[u8], at: usize, abi: Abi) -> [u8; SLOT_BYTES]
     requires { ⌜ at + layoutOf abi .slotSize ≤ length (now rings) ⌝ }
     ensures { λ r. ⌜ requestIn r ≡ requestOf (layoutOf abi) (part (layoutOf abi .slotSize) (now (rings .entry)) at) ⌝ }
