@@ -9,7 +9,6 @@ mod sheets;
 pub use ask::Ask;
 pub use bench::Bench;
 pub use both::Both;
-pub use generate::ABIS;
 pub use sheets::{full_sheet, sheet, usual_sheet, usual_sheet_of, with_protocol};
 
 /// The README's listing, compiled and run with the tests.

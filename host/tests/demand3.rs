@@ -5,7 +5,7 @@ use kernelharp::layout::{
     write_u32, Abi, GRANTS_BYTES, REQ_EVENT, REQ_PROD, RINGS_BYTES, RING_BYTES,
 };
 use kernelharp::words::{done, kind, turn, DONE_WORDS, TURN_WORDS};
-use tests::{usual_sheet, usual_sheet_of, ABIS};
+use tests::{usual_sheet, usual_sheet_of};
 
 /// A history with the first `ports` ports open, and the rings lent to it. All requests are
 /// zeros: the pair (0, 0), which zeros in a response answer.
@@ -252,7 +252,7 @@ fn starts_name_lowest_tag_and_serial() {
 
 #[test]
 fn an_answer_with_another_pair() {
-    for abi in ABIS {
+    for abi in Abi::ALL {
         let mut story = Story::of(abi, 9);
         story.answer(abi, 0, (0, 1));
         faulty(story.answered(0), "pairs taken");
@@ -265,7 +265,7 @@ fn an_answer_with_another_pair() {
 
 #[test]
 fn a_pair_is_read_when_taken() {
-    for abi in ABIS {
+    for abi in Abi::ALL {
         let mut story = Story::of(abi, 1);
         story.ask(abi, 0, (77, 1));
         story.started(0, 0, 0).unwrap();

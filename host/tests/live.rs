@@ -83,12 +83,13 @@ impl Live {
         refused: Result<(), Refusal>,
         due: &Outcome,
     ) {
-        let page = self.pages[port.index()].shared();
+        let page = self.pages[port.index()];
         let backend = &mut self.backend;
         match *call {
             Call::Open { ref sheet, .. } => {
-                assert_eq!(backend.open(port, sheet, page), refused);
-                self.opened.extend(refused.map(|()| Abi::of_sheet(sheet)));
+                let abi = Abi::of_sheet(sheet);
+                assert_eq!(backend.open(port, sheet, page.shared(abi)), refused);
+                self.opened.extend(refused.map(|()| abi));
             }
             Call::Close { .. } => assert_eq!(backend.close(port).map(|_| ()), refused),
             Call::Complete { named, .. } => {

@@ -9,7 +9,7 @@ use kernelharp::words::{DONE_WORDS, TURN_WORDS};
 use kernelharp::{
     Completion, Done, Memory, Reason, Refusal, Serial, Status, Tag, Turn, MEMORY_WORDS,
 };
-use tests::{usual_sheet_of, ABIS};
+use tests::usual_sheet_of;
 
 const UNKNOWN: u8 = 9;
 const FLUSH: u8 = 3;
@@ -76,7 +76,7 @@ impl Bench {
 
 #[test]
 fn answered_at_the_wrap() {
-    for abi in ABIS {
+    for abi in Abi::ALL {
         let mut bench = Bench::at_the_wrap(abi);
         bench.rings[abi.slot_at(31)] = UNKNOWN;
         let Turn::Answered { reason, notify, .. } = bench.turn() else {
@@ -92,7 +92,7 @@ fn answered_at_the_wrap() {
 
 #[test]
 fn started_at_the_wrap() {
-    for abi in ABIS {
+    for abi in Abi::ALL {
         let mut bench = Bench::at_the_wrap(abi);
         bench.rings[abi.slot_at(31)] = FLUSH;
         let Turn::Started(plan) = bench.turn() else {
@@ -117,7 +117,7 @@ fn started_at_the_wrap() {
 
 #[test]
 fn idle_and_overrun_at_the_wrap() {
-    for abi in ABIS {
+    for abi in Abi::ALL {
         for (req_prod, idle) in [(u32::MAX, true), (31, false), (32, false)] {
             let mut bench = Bench::at_the_wrap(abi);
             write_u32(&mut bench.rings, REQ_PROD, req_prod);
@@ -162,14 +162,21 @@ fn written(before: &[u8], after: &[u8]) -> Vec<usize> {
 fn check_response(before: &[u8], after: &[u8], port: usize) {
     let written = written(before, after);
     let of = |abi: &Abi| written.iter().all(|&at| is_response(*abi, port, at));
-    assert!(ABIS.iter().any(of), "ring bytes {written:?} were written");
+    assert!(
+        Abi::ALL.iter().any(of),
+        "ring bytes {written:?} were written"
+    );
 }
 
 fn any_call(random: &mut Random, bench: &mut Bench) {
     let before = bench.rings.clone();
     let port = random.below(9) as u32;
     match random.index(8) {
-        0 => check_code(bench.memory.open(port, &usual_sheet_of(random.pick(&ABIS)))),
+        0 => check_code(
+            bench
+                .memory
+                .open(port, &usual_sheet_of(random.pick(&Abi::ALL))),
+        ),
         1 => check_code(bench.memory.close(port)),
         2..=4 => {
             let named = Completion {

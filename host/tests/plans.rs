@@ -5,7 +5,7 @@ use generate::turn_words;
 use kernelharp::layout::Abi;
 use kernelharp::words::{extent, kind, turn, TURN_WORDS};
 use second::{Extent, Operation, Plan, Status, Turned};
-use tests::{full_sheet, usual_sheet_of, with_protocol, Ask, Bench, ABIS};
+use tests::{full_sheet, usual_sheet_of, with_protocol, Ask, Bench};
 
 /// The plan of a start on port 0, which leaves the pages.
 fn started(abi: Abi, ask: &Ask) -> Plan {
@@ -25,7 +25,7 @@ fn started(abi: Abi, ask: &Ask) -> Plan {
 fn plan_of_a_write() {
     let mut ask = Ask::of(1, 3, 1000, 0, 7);
     ask.segments = vec![(5, 0, 7), (1023, 7, 7), (0, 2, 4)];
-    let [plan, other] = ABIS.map(|abi| started(abi, &ask));
+    let [plan, other] = Abi::ALL.map(|abi| started(abi, &ask));
     assert_eq!(plan, other, "64-bit and 32-bit");
     let stretch = |frame, first_sector, length, disk_sector| Extent {
         frame,
@@ -56,7 +56,7 @@ fn plans_without_extents() {
     // Start and count of a discard have 64 bits in both layouts.
     let (far, many) = (0x0102_0304_0506_0708, 0x1112_1314_1516_1718);
     let large = full_sheet("w", "512", &u64::MAX.to_string());
-    for abi in ABIS {
+    for abi in Abi::ALL {
         let mut bench = Bench::open(&with_protocol(&large, abi));
         let mut plan = |ask: &Ask| {
             let plan = bench.serve(ask).unwrap();
@@ -102,7 +102,7 @@ fn expected_results() {
             (-95, Status::NotSupported),
             (95, Status::Error),
         ] {
-            for abi in ABIS {
+            for abi in Abi::ALL {
                 let came = status_of(abi, &ask, result);
                 assert_eq!(came, status, "{expected} and {result}, {abi:?}");
             }

@@ -2,11 +2,11 @@
 //! in both layouts.
 
 use kernelharp::layout::Abi;
-use tests::{full_sheet, sheet, usual_sheet, usual_sheet_of, with_protocol, Ask, Bench, ABIS};
+use tests::{full_sheet, sheet, usual_sheet, usual_sheet_of, with_protocol, Ask, Bench};
 
 /// A number that is the same for both layouts.
 fn either(number: impl Fn(Abi) -> u32) -> u32 {
-    let [number, other] = ABIS.map(number);
+    let [number, other] = Abi::ALL.map(number);
     assert_eq!(number, other, "64-bit and 32-bit");
     number
 }
@@ -154,7 +154,7 @@ fn reason_27() {
         assert_eq!(granted(0, frame, 2), 27, "frame {frame}");
     }
     // 27 before 28; the grants of another port say nothing here.
-    for abi in ABIS {
+    for abi in Abi::ALL {
         let mut bench = Bench::open(&usual_sheet_of(abi));
         bench.grant(0, 5, 0);
         assert_eq!(bench.number(&Ask::of(0, 1, 9999, 0, 7)), 27);

@@ -1,8 +1,9 @@
 //! Refusals 1 to 6, each on both sides of its line and before those that come later (rules 7.1 to 7.6).
 
+use kernelharp::layout::Abi;
 use kernelharp::layout::{GRANTS_BYTES, RINGS_BYTES};
 use second::Turned;
-use tests::{usual_sheet, usual_sheet_of, Ask, Bench, ABIS};
+use tests::{usual_sheet, usual_sheet_of, Ask, Bench};
 
 #[test]
 fn refusal_01() {
@@ -104,7 +105,10 @@ fn refusal_06() {
 
 #[test]
 fn stale_completion_after_reopening() {
-    for (abi, again) in ABIS.map(|abi| ABIS.map(|again| (abi, again))).concat() {
+    for (abi, again) in Abi::ALL
+        .map(|abi| Abi::ALL.map(|again| (abi, again)))
+        .concat()
+    {
         let mut bench = Bench::open(&usual_sheet_of(abi));
         bench.serve(&Ask::usual_read()).unwrap();
         bench.complete(0, 0, 0, 8).unwrap();

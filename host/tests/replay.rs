@@ -1,7 +1,7 @@
 //! The replayed list of calls, run through the second program and the archive: their lines are those
 //! that the proved program wrote, answers and changed page bytes alike.
 
-use kernelharp::layout::{GRANTS_BYTES, RING_BYTES, PORT_GRANTS, RINGS_BYTES};
+use kernelharp::layout::{GRANTS_BYTES, PORT_GRANTS, RINGS_BYTES, RING_BYTES};
 use kernelharp::Completion;
 use second::{Done, Plan, Refusal, Turned};
 use std::fmt::Write;

@@ -5,7 +5,7 @@ use generate::{done_words, turn_words};
 use kernelharp::layout::{read_u32, Abi, REQ_EVENT, RING_BYTES, RSP_EVENT, RSP_PROD};
 use kernelharp::words::{done, kind, turn, TURN_WORDS};
 use second::{Reason, Status, Turned};
-use tests::{usual_sheet_of, Ask, Bench, ABIS};
+use tests::{usual_sheet_of, Ask, Bench};
 
 fn notified(abi: Abi, event: u32, notify: bool) {
     let mut bench = Bench::open(&usual_sheet_of(abi));
@@ -30,7 +30,7 @@ fn notified(abi: Abi, event: u32, notify: bool) {
 
 #[test]
 fn notify_exactly_at_rsp_event() {
-    for abi in ABIS {
+    for abi in Abi::ALL {
         for (event, notify) in [(0, false), (1, true), (2, false), (u32::MAX, false)] {
             notified(abi, event, notify);
         }
@@ -99,7 +99,7 @@ fn overrun_line(abi: Abi, in_flight: u32) {
 
 #[test]
 fn overrun_line_with_requests_in_flight() {
-    for abi in ABIS {
+    for abi in Abi::ALL {
         for in_flight in 0..=32 {
             overrun_line(abi, in_flight);
         }
@@ -108,7 +108,7 @@ fn overrun_line_with_requests_in_flight() {
 
 #[test]
 fn lowest_free_tag() {
-    for abi in ABIS {
+    for abi in Abi::ALL {
         let mut bench = Bench::open(&usual_sheet_of(abi));
         for tag in 0..32 {
             let plan = bench.serve(&Ask::usual_read()).unwrap();
@@ -128,7 +128,7 @@ fn lowest_free_tag() {
 /// byte that the response does not have as it was.
 #[test]
 fn slots_of_each_layout() {
-    for abi in ABIS {
+    for abi in Abi::ALL {
         let mut bench = Bench::open(&usual_sheet_of(abi));
         bench.rings.fill(0xDD);
         for index in 0..64 {

@@ -6,7 +6,7 @@ use kernelharp::layout::{read_u64, Abi, HEADER_BYTES, PORT_GRANTS};
 use second::{
     backlog, read_sheet, response_bytes, Backlog, Disk, Layout, Plan, Reason, Status, Turned,
 };
-use tests::{full_sheet, sheet, usual_sheet_of, with_protocol, Ask, Bench, ABIS};
+use tests::{full_sheet, sheet, usual_sheet_of, with_protocol, Ask, Bench};
 
 const WORKED: &str = include_str!("../../tests/vectors/worked.txt");
 const SHEETS: &str = include_str!("../../tests/vectors/sheets.txt");
@@ -101,7 +101,7 @@ fn requests() {
             number(first),
             number(last),
         );
-        for abi in ABIS {
+        for abi in Abi::ALL {
             let mut bench = Bench::open(&with_protocol(&full_sheet(mode, size, sectors), abi));
             bench.grant(0, 5, number(grant));
             let came = match bench.serve(&ask) {
@@ -122,7 +122,7 @@ fn indices() {
         let (taken, answered, req_prod): (u32, u32, u32) =
             (number(taken), number(answered), number(req_prod));
         let in_flight = taken.wrapping_sub(answered);
-        for abi in ABIS {
+        for abi in Abi::ALL {
             let slot = (abi.slot_at(taken) - HEADER_BYTES) / abi.slot_bytes();
             let came = match backlog(req_prod, taken, in_flight) {
                 Backlog::Nothing => "nothing".to_string(),
@@ -171,7 +171,7 @@ fn results() {
             panic!("two words: {given:?}")
         };
         let expected: u8 = number(expected);
-        for abi in ABIS {
+        for abi in Abi::ALL {
             let mut bench = Bench::open(&usual_sheet_of(abi));
             let plan = bench
                 .serve(&Ask::of(0, 1, 0, 0, expected - 1))
@@ -300,7 +300,7 @@ fn request_vectors() {
         let (port, request) = words.split_at(7);
         let (mut ask, frame, grant) = ask_of(request);
         ask.id = place;
-        for abi in ABIS {
+        for abi in Abi::ALL {
             let mut bench = Bench::open(&with_protocol(&sheet_of(port), abi));
             bench.grants.fill(0);
             if frame < PORT_GRANTS {

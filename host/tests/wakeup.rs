@@ -56,7 +56,7 @@ impl Pair {
         let mut pair = Pair {
             frontend: Frontend::new(page, abi),
             backend: Backend::new().unwrap(),
-            page: page.shared(),
+            page: page.shared(abi),
             port,
         };
         pair.backend.open(port, &sheet(abi)).unwrap();
@@ -357,7 +357,7 @@ fn nobody_sleeps_over_anything_in_a_free_run() {
 fn free_run(abi: Abi) -> u64 {
     let (page, port) = (GuestPage::new(), port().unwrap());
     let mut backend = LiveBackend::new().unwrap();
-    backend.open(port, &sheet(abi), page.shared()).unwrap();
+    backend.open(port, &sheet(abi), page.shared(abi)).unwrap();
     backend.grants_mut(port)[0] = 2;
     let bells = Bells::default();
     thread::scope(|scope| {

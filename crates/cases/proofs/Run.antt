@@ -280,7 +280,8 @@ record Bytes : Type 0 where
   idleHeader : wrote sheet (lent 0 0) 0 16 ≡ 0 ∷ 0 ∷ 0 ∷ 0 ∷ 1 ∷ 0 ∷ 0 ∷ 0 ∷ 0 ∷ 0 ∷ 0 ∷ 0 ∷ 2 ∷ 0 ∷ 0 ∷ 0 ∷ []
   -- the one extent of a start: frame 5, from its sector 0, eight sectors, at disk sector 2000; ten unused ones
   extents : turn sheet (lent 1 2000) .words ≡ 5 ∷ 0 ∷ 8 ∷ 2000 ∷ replicate 40 0
+  extents32 : turn sheet32 (lent32 2000) .words ≡ 5 ∷ 0 ∷ 8 ∷ 2000 ∷ replicate 40 0
 
 bytes : Bytes
 unfolding lent lent32 opened wrote page rings grants words load store part setPart all same least tally pageOf setPage grantsOf reqProd setReqEvent setRspProd rspEvent ringFor slotAt slotOf segmentOf segmentsOf requestOf setResponse entryAt bodyLength entriesFrom entriesOf bodiesEnd wellFormed rising isDigit digitsFrom capped digitsOf numberOf choiceBody numberBody isSectorSize isAllowed bodyOf afterBody afterBodies valueOf absent valuesOf present paramsOf hasRequired sheetOf isBusy inFlightOf lowestFree distance pendingOf asksSecure isEmptyBarrier movesNothing sectorsIn totalSectors countOf isAligned isGranted unknownOperation featureOff secureOff readOnly wrongAmount isWithinFrame wrongSegment notGranted pastEnd unaligned operationChecks segmentChecks diskChecks checks extentsFrom extentsOf extentWords wordsBeside planOf verdictOf pendingAt hasWork passedOver armed idle responded respondedAt notifies requestAt settled overran servedBy turned expectedOf statusOf completed openedBy dueOpen dueClose dueTurn namesNone refusedCompletion dueComplete effectDue viewOf withPort withTag withPointer does next
-bytes = record { response = refl; response32 = refl; answeredHeader = refl; idleHeader = refl; extents = refl }
+bytes = record { response = refl; response32 = refl; answeredHeader = refl; idleHeader = refl; extents = refl; extents32 = refl }

@@ -11,7 +11,7 @@ use Rattle.wire.specs.Part.{part}
 use Rattle.wire.proofs.LittleEndian.{load-shift}
 use Rattle.model.specs.Base.{modulus}
 use Rattle.model.specs.Buffers.{pageShare}
-use Rattle.model.specs.Ring.{Layout, Ring, headerSize, ringSlots, restSize, segmentSize, segmentFirstAt, segmentLastAt, requestOperationAt, requestCountAt, responsePaddingAt, ringFor, ringOf, slotAt, slotOf, segmentOf, segmentsOf, requestOf}
+use Rattle.model.specs.Ring.{Layout, Ring, headerSize, ringSlots, headSize, restSize, segmentSize, segmentFirstAt, segmentLastAt, requestOperationAt, requestCountAt, responsePaddingAt, ringFor, ringOf, slotAt, slotOf, segmentOf, segmentsOf, requestOf}
 use Rattle.model.specs.Port.{busyBits}
 use Rattle.model.specs.Checks.{maxSegments}
 use Rattle.model.specs.declared.Abi.{Abi}
@@ -30,15 +30,16 @@ pub record Fits (g : Ring) : Type 0 where
   pub segmentRoom : g .layout .segmentsAt + segmentSize * maxSegments ≤ g .layout .slotSize
   pub statusRoom : responsePaddingAt ≤ g .layout .responseSize
   pub responseRoom : g .layout .responseSize ≤ g .layout .slotSize
-  -- from its id on, a request has the same bytes in every layout
+  -- up to its handle and from its id on, a request has the same bytes in every layout, and none of them twice
+  pub headRoom : headSize ≤ g .layout .idAt
   pub startPlace : g .layout .startAt ≡ g .layout .idAt + 8
   pub segmentsPlace : g .layout .segmentsAt ≡ g .layout .idAt + 16
   pub slotEnd : g .layout .slotSize ≡ g .layout .idAt + restSize
 
 -- so these numbers of a layout settle the others
-fits-from : (l : Layout) → l .startAt ≡ l .idAt + 8 → l .segmentsAt ≡ l .idAt + 16 → l .slotSize ≡ l .idAt + restSize → l .idAt ≤ 8
+fits-from : (l : Layout) → l .startAt ≡ l .idAt + 8 → l .segmentsAt ≡ l .idAt + 16 → l .slotSize ≡ l .idAt + restSize → headSize ≤ l .idAt → l .idAt ≤ 8
     → responsePaddingAt ≤ l .responseSize → l .responseSize ≤ restSize → Fits (record { layout = l; size = ringSlots })
-fits-from l start segments slot id status response = record {
+fits-from l start segments slot head id status response = record {
   some = omega arith;
   whole = refl;
   marked = omega arith;
@@ -48,6 +49,7 @@ fits-from l start segments slot id status response = record {
   segmentRoom = omega arith;
   statusRoom = status;
   responseRoom = omega arith;
+  headRoom = head;
   startPlace = start;
   segmentsPlace = segments;
   slotEnd = slot;
@@ -55,8 +57,8 @@ fits-from l start segments slot id status response = record {
 
 pub fits-for : (a : Abi) → Fits (ringFor a)
 unfolding ringFor
-fits-for Abi.Bits64 = fits-from _ refl refl refl (omega arith) (omega arith) (omega arith)
-fits-for Abi.Bits32 = fits-from _ refl refl refl (omega arith) (omega arith) (omega arith)
+fits-for Abi.Bits64 = fits-from _ refl refl refl (omega arith) (omega arith) (omega arith) (omega arith)
+fits-for Abi.Bits32 = fits-from _ refl refl refl (omega arith) (omega arith) (omega arith) (omega arith)
 
 pub fits : (p : Params) → Fits (ringOf p)
 fits p = fits-for (p .abi)
@@ -89,7 +91,7 @@ module _ (g : Ring) (f : Fits g) where
 -- ---- one request in two layouts
 
 -- bytes that agree up to the handle, and from the id on, spell one request, each in its own layout
-module _ (g h : Ring) (f : Fits g) (e : Fits h) (a b : List ℕ) (head : (i : ℕ) → i < 4 → getD a i 0 ≡ getD b i 0)
+module _ (g h : Ring) (f : Fits g) (e : Fits h) (a b : List ℕ) (head : (i : ℕ) → i < headSize → getD a i 0 ≡ getD b i 0)
     (rest : (i : ℕ) → getD a (g .layout .idAt + i) 0 ≡ getD b (h .layout .idAt + i) 0) where
   byte-same : (x y i : ℕ) → x ≡ g .layout .idAt + i → y ≡ h .layout .idAt + i → getD a x 0 ≡ getD b y 0
   byte-same x y i p q = rw (p, q) (rest i)

@@ -170,7 +170,7 @@ absent node = cond (eqb node 6) 512 0
 unfoldable pub valuesOf : List Entry → ℕ → ℕ
 valuesOf es node = valueOf node (absent node) es
 
--- a choice of two, as yes or no: "w" and "1" are yes (rule 3.5)
+-- a choice of two, as yes or no: "w" and "1" are yes, and of the protocols the 32-bit one (rule 3.5)
 abbrev pub isOn : ℕ → Bool
 isOn v = eqb v 1
 

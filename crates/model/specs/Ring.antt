@@ -60,7 +60,10 @@ abbrev pub layoutOf : Abi → Layout
 layoutOf Abi.Bits64 = record { slotSize = slotBytes; idAt = 8; startAt = 16; segmentsAt = 24; responseSize = 16 }
 layoutOf Abi.Bits32 = record { slotSize = 108; idAt = 4; startAt = 12; segmentsAt = 20; responseSize = 12 }
 
--- the bytes of a request from its id on, which have one order in both layouts (rules 2.5 and 2.8)
+-- the bytes of a request up to its handle, and those from its id on: both layouts have the same of them, in one order (rules 2.5 and 2.8)
+abbrev pub headSize : ℕ
+headSize = 4
+
 abbrev pub restSize : ℕ
 restSize = 104
 

@@ -5,15 +5,14 @@ use Prim.Native.Nat.{ℕ, _+_, _<_, _≤_}
 use native.Mathlib.Decide.{ℕ-discrete, decLt}
 use native.Mathlib.Nat.{zero-add, add-assoc}
 use native.Mathlib.Omega.{arith}
-use lib.ListN.{length, getD, set, List·getD-eq-default}
+use lib.ListN.{length, getD, set, replicate, getD-replicate, List·getD-eq-default}
 use lib.Seq.{getD-set-same, getD-set-other}
 use Rattle.wire.specs.Part.{part}
 use Rattle.wire.proofs.Part.{length-part, getD-part}
-use Rattle.model.specs.Ring.{slotBytes, restSize, layoutOf, ringFor, requestOf}
+use Rattle.model.specs.Ring.{slotBytes, headSize, restSize, layoutOf, ringFor}
 use Rattle.model.specs.declared.Abi.{Abi}
 use Rattle.model.proofs.Ring.{fits-for, request-same}
-use Rattle.layout.specs.Copy.{copyLayout, requestIn}
-use Rattle.ring.specs.Copy.{Copied}
+use Rattle.ring.specs.Copy.{Copied, Taken}
 
 -- ---- one byte after another
 
@@ -40,8 +39,8 @@ module _ (n : ℕ) (source : List ℕ) (from : ℕ) (before : List ℕ) (to : �
 -- ---- a request in its copy
 
 -- the bytes before the id, and those from the id on, are all that a request is read from
-module _ (a : Abi) (rings zeros first copy : List ℕ) (at : ℕ) (room : at + layoutOf a .slotSize ≤ length rings) (n : length copy ≡ slotBytes)
-    (h : Copied 4 rings at zeros 0 first) (r : Copied restSize rings (at + layoutOf a .idAt) first 8 copy) where
+module _ (a : Abi) (rings first copy : List ℕ) (at : ℕ) (room : at + layoutOf a .slotSize ≤ length rings) (n : length copy ≡ slotBytes)
+    (h : Copied headSize rings at (replicate slotBytes 0) 0 first) (r : Copied restSize rings (at + layoutOf a .idAt) first 8 copy) where
   abbrev slot : List ℕ
   slot = part (layoutOf a .slotSize) rings at
 
@@ -49,7 +48,7 @@ module _ (a : Abi) (rings zeros first copy : List ℕ) (at : ℕ) (room : at + l
   unfolding ringFor
   end = fits-for a .slotEnd
 
-  head-same : (i : ℕ) → i < 4 → getD copy i 0 ≡ getD slot i 0
+  head-same : (i : ℕ) → i < headSize → getD copy i 0 ≡ getD slot i 0
   head-same i k =
       r .kept i (λ q l e. omega arith)
       ∙ (rw (zero-add i) at (h .there i k))
@@ -62,6 +61,9 @@ module _ (a : Abi) (rings zeros first copy : List ℕ) (at : ℕ) (room : at + l
         | no m ↦ List·getD-eq-default copy 0 (omega (arith, m)) ∙ sym (List·getD-eq-default slot 0 (omega (arith, m, end, length-part (layoutOf a .slotSize) rings at room)))
       ]
 
-  pub request-copied : requestIn copy ≡ requestOf (layoutOf a) slot
+  pub request-copied : Taken a slot copy
   unfolding ringFor
-  request-copied = request-same (ringFor Abi.Bits64) (ringFor a) (fits-for Abi.Bits64) (fits-for a) copy slot head-same rest-same
+  request-copied = record {
+    request = request-same (ringFor Abi.Bits64) (ringFor a) (fits-for Abi.Bits64) (fits-for a) copy slot head-same rest-same;
+    gap = λ i l k. r .kept i (λ q m e. omega arith) ∙ h .kept i (λ q m e. omega arith) ∙ getD-replicate slotBytes i 0 0 (omega arith);
+  }

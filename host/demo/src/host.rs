@@ -101,7 +101,7 @@ impl<'a> Host<'a> {
     /// The disk is the host's to describe, the layout the guest's.
     fn open(&mut self, port: Port, abi: Abi) -> Result<(), String> {
         let disk = self.profiles[port.index()].sheet;
-        let page = self.links[port.index()].page.shared();
+        let page = self.links[port.index()].page.shared(abi);
         *self.backend.grants_mut(port) = grants();
         let sheet = Sheet { abi, ..disk };
         let opened = self.backend.open(port, &sheet.bytes(), page);

@@ -1,6 +1,6 @@
 //! A ring page that two threads share.
 
-use kernelharp::layout::{RING_BYTES, REQ_EVENT, REQ_PROD, RSP_EVENT, RSP_PROD};
+use kernelharp::layout::{Abi, REQ_EVENT, REQ_PROD, RING_BYTES, RSP_EVENT, RSP_PROD};
 use kernelharp::live::{Mapping, SharedPage, RING_WORDS};
 use std::sync::atomic::{AtomicU32, Ordering};
 
@@ -33,9 +33,9 @@ impl GuestPage {
         self.store(RSP_EVENT, 1);
     }
 
-    /// The page as a host maps it.
-    pub fn shared(&'static self) -> SharedPage {
-        SharedPage::new(Mapping::of_atomics(&self.words))
+    /// The page as a host maps it, for a guest of a layout.
+    pub fn shared(&'static self, abi: Abi) -> SharedPage {
+        SharedPage::new(Mapping::of_atomics(&self.words), abi)
     }
 
     /// The word at a multiple of four.

@@ -80,7 +80,7 @@ pub struct Response {
     pub operation: u8,
     /// 0 okay, -1 error, -2 not supported.
     pub status: i16,
-    /// Whether the bytes without a meaning are zero: six of a 64-bit guest's, one of a 32-bit one's.
+    /// Whether the bytes without a meaning are zero: five of a 64-bit guest's, one of a 32-bit one's.
     pub padding_is_zero: bool,
 }
 

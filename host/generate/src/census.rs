@@ -7,7 +7,7 @@ mod turns;
 
 use self::classes::expected_classes;
 use self::sheets::{opened_class, sheet_faults};
-use crate::{Buffer, Write, ABIS};
+use crate::{Buffer, Write};
 use history::{Event, History, State};
 use kernelharp::layout::{
     page, read_u32, Abi, HEADER_BYTES, PORTS, REQ_EVENT, REQ_PROD, RING_BYTES, RSP_PROD, SLOTS,
@@ -144,7 +144,7 @@ impl Census {
     fn note_slot_write(&mut self, history: &History, port: usize, page: &[u8], at: usize) {
         let abi = self.books[port].abi;
         let begins = |abi: Abi| (at - HEADER_BYTES) % abi.slot_bytes() == 0;
-        let astray = !begins(abi) && ABIS.into_iter().any(begins);
+        let astray = !begins(abi) && Abi::ALL.into_iter().any(begins);
         self.tick_of_if(abi, astray, "guest wrote at a slot of the other layout");
         let slot = ((at - HEADER_BYTES) / abi.slot_bytes()) as u32;
         if slot >= SLOTS as u32 {
@@ -224,27 +224,19 @@ impl fmt::Display for Census {
     }
 }
 
-/// A layout as classes name it.
-fn bits(abi: Abi) -> &'static str {
-    match abi {
-        Abi::Bits64 => "64-bit",
-        Abi::Bits32 => "32-bit",
-    }
-}
-
 /// A class of a port of one layout.
 fn class_of(abi: Abi, class: &str) -> String {
-    format!("{}: {class}", bits(abi))
+    format!("{abi}: {class}")
 }
 
 /// The class of a port whose opening before had this layout.
 fn reopened_class(before: Abi) -> String {
-    format!("open done, reopened, {} before", bits(before))
+    format!("open done, reopened, {before} before")
 }
 
 /// The class of a turn that serves a port right after one that served a port of this layout.
 fn served_after_class(before: Abi) -> String {
-    format!("served right after a {} port", bits(before))
+    format!("served right after a {before} port")
 }
 
 /// A word of an answer that is 0 or 1.

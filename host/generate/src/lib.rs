@@ -30,11 +30,7 @@ pub use random::Random;
 pub use run::{run, Failure, Report};
 pub use world::{Outcome, World, UNTOUCHED};
 
-use kernelharp::layout::Abi;
 use kernelharp::Completion;
-
-/// The layouts that a guest's records can have.
-pub const ABIS: [Abi; 2] = [Abi::Bits64, Abi::Bits32];
 
 /// One of the four calls. Buffers of another length than due hold the first bytes of the due one,
 /// then zeros.

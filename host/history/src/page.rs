@@ -57,7 +57,7 @@ impl Layout {
         64 + slot_bytes * (index as usize % SLOTS)
     }
 
-    /// The pair of a request, which has its id behind padding of the layout's own.
+    /// The pair of a request, whose id is at a place of the layout's own.
     pub fn request_pair(self, page: &[u8], index: u32) -> Pair {
         let at = self.slot_at(index);
         let id = match self {

@@ -2,7 +2,7 @@
 
 use crate::answers::{Done, Turn};
 use crate::ffi::{ArchiveMismatch, Completion, Memory};
-use crate::layout::{page, page_mut, GRANTS_BYTES, RING_BYTES, PORT_GRANTS, RINGS_BYTES};
+use crate::layout::{page, page_mut, GRANTS_BYTES, PORT_GRANTS, RINGS_BYTES, RING_BYTES};
 use crate::names::{Name, Port};
 use crate::terms::Refusal;
 use crate::words::{DONE_WORDS, TURN_WORDS};

@@ -3,7 +3,7 @@
 use super::sheets::{body_class, opened_by, protocol_fault, NUMBER, TEXT};
 use super::{class_of, reopened_class, served_after_class};
 use crate::sheets::NEAR_PROTOCOLS;
-use crate::ABIS;
+use kernelharp::layout::Abi;
 
 /// The reasons that each operation can meet.
 const REASONS: [(u8, &[u64]); 5] = [
@@ -38,7 +38,7 @@ pub fn expected_classes() -> Vec<String> {
     classes.extend([6, 7, 9].map(|node| body_class(NUMBER, node)));
     classes.extend(NEAR_PROTOCOLS.map(protocol_fault));
     classes.push(opened_by(None));
-    for abi in ABIS {
+    for abi in Abi::ALL {
         classes.push(opened_by(Some(abi.protocol())));
         let port_classes = port_classes();
         classes.extend(port_classes.iter().map(|class| class_of(abi, class)));
@@ -57,8 +57,8 @@ fn port_classes() -> Vec<String> {
         }
     }
     classes.extend((21..=29).map(|reason| format!("answered {reason}")));
-    classes.extend(ABIS.map(reopened_class));
-    classes.extend(ABIS.map(served_after_class));
+    classes.extend(Abi::ALL.map(reopened_class));
+    classes.extend(Abi::ALL.map(served_after_class));
     classes
 }
 

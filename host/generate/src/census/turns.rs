@@ -1,7 +1,6 @@
 //! Turns: what was served, and how close to a line.
 
 use super::{served_after_class, wrong_length, yes_or_no, Census};
-use crate::ABIS;
 use history::{History, State};
 use kernelharp::layout::{
     page, read_u32, read_u64, Abi, GRANTS_BYTES, PORTS, PORT_GRANTS, REQ_PROD, RINGS_BYTES,
@@ -67,7 +66,7 @@ impl Census {
         let open = |abi: Abi| {
             (0..PORTS).any(|port| history.state(port) == State::Open && self.books[port].abi == abi)
         };
-        let both = ABIS.into_iter().all(open);
+        let both = Abi::ALL.into_iter().all(open);
         self.tick_if(both, "turn with ports of both layouts open");
         let abi = self.books[port].abi;
         let served = (kind != kind::IDLE).then_some(abi);

@@ -2,7 +2,7 @@
 
 use super::{Generator, Guest, Manner, Pace};
 use crate::requests::any_request;
-use crate::{Buffer, World, Write, ABIS};
+use crate::{Buffer, World, Write};
 use history::State;
 use kernelharp::layout::{
     page, read_u32, Abi, GRANTS_BYTES, HEADER_BYTES, PORTS, PORT_GRANTS, REQ_EVENT, REQ_PROD,
@@ -125,7 +125,7 @@ impl Generator {
     fn layout_used(&mut self, port: usize) -> Abi {
         let guest = &self.guests[port];
         if guest.manner == Manner::Hostile && self.random.chance(20) {
-            self.random.pick(&ABIS)
+            self.random.pick(&Abi::ALL)
         } else {
             guest.abi
         }
@@ -153,7 +153,7 @@ impl Generator {
     /// Writes over requests already taken, by either layout's places, over the backend's own header
     /// words, or anywhere.
     fn scribble(&mut self, port: usize, writes: &mut Vec<Write>) {
-        let abi = self.random.pick(&ABIS);
+        let abi = self.random.pick(&Abi::ALL);
         let at = match self.random.index(4) {
             0 => abi.slot_at(self.random.word() as u32),
             1 => self.random.pick(&[REQ_EVENT, RSP_PROD, RSP_EVENT, 16]),

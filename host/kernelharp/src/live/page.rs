@@ -31,12 +31,11 @@ pub struct SharedPage {
 }
 
 impl SharedPage {
-    /// The page of a port about to be opened; a 64-bit guest's, unless [`SharedPage::restart`] says
-    /// otherwise.
-    pub fn new(page: Mapping) -> SharedPage {
+    /// The page of a port about to be opened, in the layout that its sheet says ([`Abi::of_sheet`]).
+    pub fn new(page: Mapping, abi: Abi) -> SharedPage {
         SharedPage {
             page,
-            abi: Abi::default(),
+            abi,
             req_cons: 0,
             rsp_prod_pvt: 0,
             copied: 0,

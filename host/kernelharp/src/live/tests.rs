@@ -82,7 +82,7 @@ impl Guest {
     }
 
     fn share(&self) -> SharedPage {
-        SharedPage::new(Mapping::of_atomics(self.page))
+        SharedPage::new(Mapping::of_atomics(self.page), self.abi)
     }
 
     /// The page and its private one, as they are when the port was opened.

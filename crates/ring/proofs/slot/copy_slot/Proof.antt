@@ -36,7 +36,7 @@ returns c =
     let head = id .before .before in
     let start = head .before .before .before in
     let a = start .args in
-    request-copied (a .abi) (a .rings .now) _ _ _ (a .at) (start .pre) (omega arith) (head .copy-bytes .ensures)
+    request-copied (a .abi) (a .rings .now) _ _ (a .at) (start .pre) (omega arith) (head .copy-bytes .ensures)
     (rw (id .id-at .ensures .0) at (rest .copy-bytes2 .ensures))
 
 pub copy-slot-spec : {M : Type 1} → statement M

@@ -31,7 +31,7 @@ asked : (x : tie.After-port-at) → requestIn (x .before .before .copy-slot .res
 asked x =
     let kind = x .before .before .before .before .before in
     let e : kind .abi .result ≡ x .port-at .result .params .abi = rw (x .port-at .ensures) (kind .abi .ensures) in
-    rw (e, placed-at x) at (x .before .before .copy-slot .ensures)
+    rw (e, placed-at x) at (x .before .before .copy-slot .ensures .request)
 
 -- and the port is its own
 own : (x : tie.After-port-at) → Reads (backendOf (entry x .args .memory .now)) (entry x .args .k) (x .port-at .result)
