@@ -4,7 +4,7 @@ ghost use mathlib.Core.Path.{_≡_};
 ghost use Prim.Native.Nat.{_+_, _*_, _<_, _≤_};
 ghost use Rattle.model.specs.Checks.{maxSegments};
 ghost use Rattle.model.specs.Port.{busyBits};
-ghost use Rattle.model.specs.Ring.{layoutOf, ringFor, headSize, restSize, segmentSize, slotBytes};
+ghost use Rattle.model.specs.Ring.{layoutOf, ringFor, restSize, segmentSize, slotBytes};
 ghost use Rattle.layout.specs.Copy.{copyLayout};
 
 // The bytes of the header, and where its four fields stand, four bytes each (rule 2.2).
@@ -75,7 +75,7 @@ pub fn slot_size(abi: Abi) -> usize
 
 // Where a request keeps its id. From there on all layouts are the same.
 pub fn id_at(abi: Abi) -> usize
-    ensures { λ r. ⌜ (r ≡ layoutOf abi .idAt) × (headSize ≤ r) × (r + restSize ≤ slotBytes) ⌝ }
+    ensures { λ r. ⌜ (r ≡ layoutOf abi .idAt) × (r + restSize ≤ slotBytes) ⌝ }
 {
     match abi {
         Abi::Bits64 => COPY_ID,

@@ -24,16 +24,14 @@ pub record Fits (g : Ring) : Type 0 where
   pub marked : g .size ≤ busyBits
   -- the slots end within the page
   pub room : headerSize + g .layout .slotSize * g .size ≤ pageShare
-  -- a request's fields and a response end within the slot
-  pub idRoom : g .layout .idAt + 8 ≤ g .layout .slotSize
-  pub startRoom : g .layout .startAt + 8 ≤ g .layout .slotSize
-  pub segmentRoom : g .layout .segmentsAt + segmentSize * maxSegments ≤ g .layout .slotSize
+  -- a response has room for its status, and ends within the slot
   pub statusRoom : responsePaddingAt ≤ g .layout .responseSize
   pub responseRoom : g .layout .responseSize ≤ g .layout .slotSize
-  -- up to its handle and from its id on, a request has the same bytes in every layout, and none of them twice
+  -- a request's two pieces, up to its handle and from its id on, share no byte; the second is the same in every layout, has all segments and ends the slot
   pub headRoom : headSize ≤ g .layout .idAt
   pub startPlace : g .layout .startAt ≡ g .layout .idAt + 8
   pub segmentsPlace : g .layout .segmentsAt ≡ g .layout .idAt + 16
+  pub segmentsEnd : g .layout .slotSize ≡ g .layout .segmentsAt + segmentSize * maxSegments
   pub slotEnd : g .layout .slotSize ≡ g .layout .idAt + restSize
 
 -- so these numbers of a layout settle the others
@@ -44,14 +42,12 @@ fits-from l start segments slot head id status response = record {
   whole = refl;
   marked = omega arith;
   room = omega arith;
-  idRoom = omega arith;
-  startRoom = omega arith;
-  segmentRoom = omega arith;
   statusRoom = status;
   responseRoom = omega arith;
   headRoom = head;
   startPlace = start;
   segmentsPlace = segments;
+  segmentsEnd = omega arith;
   slotEnd = slot;
 }
 

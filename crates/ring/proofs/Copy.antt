@@ -1,4 +1,4 @@
--- Bytes copied one after another, and a request in what two such copies leave. Assumes nothing.
+-- Bytes copied one after another, what two such copies leave of a slot, and the request in it. Assumes nothing.
 use mathlib.Core.Path.{_≡_, refl, sym, _∙_}
 use mathlib.Core.List.{List}
 use Prim.Native.Nat.{ℕ, _+_, _<_, _≤_}
@@ -9,10 +9,11 @@ use lib.ListN.{length, getD, set, replicate, getD-replicate, List·getD-eq-defau
 use lib.Seq.{getD-set-same, getD-set-other}
 use Rattle.wire.specs.Part.{part}
 use Rattle.wire.proofs.Part.{length-part, getD-part}
-use Rattle.model.specs.Ring.{slotBytes, headSize, restSize, layoutOf, ringFor}
+use Rattle.model.specs.Ring.{slotBytes, headSize, restSize, layoutOf, ringFor, requestOf}
+use Rattle.layout.specs.Copy.{requestIn}
 use Rattle.model.specs.declared.Abi.{Abi}
 use Rattle.model.proofs.Ring.{fits-for, request-same}
-use Rattle.ring.specs.Copy.{Copied, Taken}
+use Rattle.ring.specs.Copy.{Copied, CopyOf}
 
 -- ---- one byte after another
 
@@ -38,7 +39,7 @@ module _ (n : ℕ) (source : List ℕ) (from : ℕ) (before : List ℕ) (to : �
 
 -- ---- a request in its copy
 
--- the bytes before the id, and those from the id on, are all that a request is read from
+-- what the two pieces leave
 module _ (a : Abi) (rings first copy : List ℕ) (at : ℕ) (room : at + layoutOf a .slotSize ≤ length rings) (n : length copy ≡ slotBytes)
     (h : Copied headSize rings at (replicate slotBytes 0) 0 first) (r : Copied restSize rings (at + layoutOf a .idAt) first 8 copy) where
   abbrev slot : List ℕ
@@ -61,9 +62,14 @@ module _ (a : Abi) (rings first copy : List ℕ) (at : ℕ) (room : at + layoutO
         | no m ↦ List·getD-eq-default copy 0 (omega (arith, m)) ∙ sym (List·getD-eq-default slot 0 (omega (arith, m, end, length-part (layoutOf a .slotSize) rings at room)))
       ]
 
-  pub request-copied : Taken a slot copy
-  unfolding ringFor
-  request-copied = record {
-    request = request-same (ringFor Abi.Bits64) (ringFor a) (fits-for Abi.Bits64) (fits-for a) copy slot head-same rest-same;
+  pub slot-copied : CopyOf (layoutOf a) slot copy
+  slot-copied = record {
+    head = head-same;
     gap = λ i l k. r .kept i (λ q m e. omega arith) ∙ h .kept i (λ q m e. omega arith) ∙ getD-replicate slotBytes i 0 0 (omega arith);
+    rest = rest-same;
   }
+
+-- a copy has the request of its slot
+pub request-copied : (a : Abi) (slot copy : List ℕ) → CopyOf (layoutOf a) slot copy → requestIn copy ≡ requestOf (layoutOf a) slot
+unfolding ringFor
+request-copied a slot copy c = request-same (ringFor Abi.Bits64) (ringFor a) (fits-for Abi.Bits64) (fits-for a) copy slot (c .head) (c .rest)

@@ -12,8 +12,8 @@ ghost use mathlib.Core.Path.{_≡_};
 ghost use Prim.Native.Nat.{_+_, _≤_};
 ghost use lib.ListN.{length};
 ghost use Rattle.wire.specs.Part.{part};
-ghost use Rattle.model.specs.Ring.{layoutOf, ringFor, slotAt, slotBytes};
-ghost use Rattle.ring.specs.Copy.{Copied, Taken};
+ghost use Rattle.model.specs.Ring.{layoutOf, ringFor, slotAt};
+ghost use Rattle.ring.specs.Copy.{Copied, CopyOf};
 
 // Where the slot of an index starts in its page.
 pub fn slot_at(abi: Abi, index: u32) -> usize
@@ -39,7 +39,7 @@ fn copy_bytes(rings: &[u8], from: usize, copy: &mut [u8], to: usize, n: usize)
 // the id may stand elsewhere in the slot. No byte is read twice, none behind the slot, and of a 64-bit guest's not the four before its id.
 pub fn copy_slot(rings: &[u8], at: usize, abi: Abi) -> [u8; SLOT_BYTES]
     requires { ⌜ at + layoutOf abi .slotSize ≤ length (now rings) ⌝ }
-    ensures { λ r. ⌜ Taken abi (part (layoutOf abi .slotSize) (now (rings .entry)) at) r ⌝ }
+    ensures { λ r. ⌜ CopyOf (layoutOf abi) (part (layoutOf abi .slotSize) (now (rings .entry)) at) r ⌝ }
 {
     let mut copy = [0u8; SLOT_BYTES];
     copy_bytes(rings, at, &mut copy, 0, HEAD_BYTES);

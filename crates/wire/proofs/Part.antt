@@ -4,10 +4,9 @@ use mathlib.Core.List.{List, [], _∷_, _++_}
 use Prim.Native.Nat.{ℕ, zero, suc, _+_, _-_, _/_, _%_, _^_, _<_, _≤_}
 use native.Mathlib.Decide.{decLt}
 use native.Mathlib.Nat.{zero-add, suc-add, add-assoc}
-use native.Mathlib.Numerals.{add-one}
 use native.Mathlib.Omega.{arith}
 use lib.ListN.{length, getD, set, take, drop, length-append, length-take, length-drop, take-append-drop, List·getD-append, List·getD-eq-default}
-use lib.Seq.{length-take-le, take-at, drop-at, getD-take, getD-drop, getD-append-add, set-append-left, take-suc, take-suc-set, ext-getD}
+use lib.Seq.{length-take-le, take-at, drop-at, getD-take, getD-drop, getD-append-add, set-append-left, ext-getD}
 use Rattle.wire.specs.LittleEndian.{load, store}
 use Rattle.wire.specs.Part.{part, setPart}
 use Rattle.wire.proofs.LittleEndian.{load-shift, length-store}
@@ -27,14 +26,6 @@ getD-part n b i j l = getD-take n (drop i b) j 0 l ∙ getD-drop i b j 0
 -- a number in a part, read in the whole
 pub load-part : (w n : ℕ) (b : List ℕ) (i j : ℕ) → j + w ≤ n → load w (part n b i) j ≡ load w b (i + j)
 load-part w n b i j h = load-shift w (part n b i) b j (i + j) (λ q l. getD-part n b i (j + q) (omega arith) ∙ rw (add-assoc i j q))
-
--- a copy of a part by bytes, one byte further
-pub part-more : (out b : List ℕ) (i j : ℕ) → j < length out → i + j < length b → take j out ≡ part j b i
-    → take (j + 1) (set out j (getD b (i + j) 0)) ≡ part (j + 1) b i
-unfolding part
-part-more out b i j h l e =
-    let k : j < length (drop i b) = simp length-drop (omega arith) in
-    rw (add-one, take-suc-set out j (getD b (i + j) 0) h, take-suc (drop i b) j 0 k, getD-drop i b j 0, e)
 
 -- a part of a part
 pub part-part : (m n : ℕ) (b : List ℕ) (i j : ℕ) → j + m ≤ n → part m (part n b i) j ≡ part m b (i + j)
@@ -126,15 +117,6 @@ setPart-store (suc w) n b o i v l h =
     ∙ rw (setPart-store w n b o i v (omega arith) h, add-assoc o i w)
 
 -- ---- bytes below 256
-
-bytes-append : (s t : List ℕ) → ((j : ℕ) → getD s j 0 < 256) → ((j : ℕ) → getD t j 0 < 256) → (j : ℕ) → getD (s ++ t) j 0 < 256
-bytes-append s t hs ht j =
-    elim (decLt j (length s)) [
-      | yes o ↦ rw (List·getD-append s t 0 j o) (hs j)
-      | no o ↦
-          let e : j ≡ length s + (j - length s) = omega arith in
-          rw e (rw (getD-append-add s t (j - length s) 0) (ht (j - length s)))
-    ]
 
 bytes-take : (n : ℕ) (b : List ℕ) → ((j : ℕ) → getD b j 0 < 256) → (j : ℕ) → getD (take n b) j 0 < 256
 bytes-take n b h j =

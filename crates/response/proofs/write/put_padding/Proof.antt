@@ -1,6 +1,5 @@
 -- `response::write::put_padding` meets its contract: the zeros of a layout are as many as its arm writes. Assumes nothing.
 use borrow.Author.Needs.{needs}
-use native.Mathlib.Omega.{arith}
 use Rattle.wire.specs.LittleEndian.{store}
 use Rattle.response.proofs.write.put_padding.Statement.{statement}
 use Rattle.response.proofs.write.put_padding.Tie as tie

@@ -1,9 +1,9 @@
--- `ring::slot::copy_slot` meets its contract: the two pieces are all that a request is read from (Copy). Assumes nothing.
+-- `ring::slot::copy_slot` meets its contract: two pieces, and zeros where neither went (Copy). Assumes nothing.
 use borrow.Author.Needs.{needs}
 use native.Mathlib.Omega.{arith}
 use Rattle.model.specs.Ring.{ringFor}
 use Rattle.model.proofs.Ring.{fits-for}
-use Rattle.ring.proofs.Copy.{request-copied}
+use Rattle.ring.proofs.Copy.{slot-copied}
 use Rattle.ring.proofs.slot.copy_slot.Statement.{statement}
 use Rattle.ring.proofs.slot.copy_slot.Tie as tie
 
@@ -36,7 +36,7 @@ returns c =
     let head = id .before .before in
     let start = head .before .before .before in
     let a = start .args in
-    request-copied (a .abi) (a .rings .now) _ _ (a .at) (start .pre) (omega arith) (head .copy-bytes .ensures)
+    slot-copied (a .abi) (a .rings .now) _ _ (a .at) (start .pre) (omega arith) (head .copy-bytes .ensures)
     (rw (id .id-at .ensures .0) at (rest .copy-bytes2 .ensures))
 
 pub copy-slot-spec : {M : Type 1} → statement M

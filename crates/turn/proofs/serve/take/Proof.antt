@@ -1,15 +1,15 @@
 -- `turn::serve::take` meets its contract: the copy is the slot, and the verdict on it is the one due. Assumes nothing.
 use borrow.Author.Needs.{needs}
-use Prim.Native.Nat.{ℕ, _+_, _*_}
 use native.Mathlib.Omega.{arith}
 use native.Mathlib.Nat.{add-sub-cancel-left}
 use mathlib.Core.Path.{_≡_, refl, sym, ap, _∙_}
 use Rattle.wire.specs.Part.{part}
-use Rattle.model.specs.Buffers.{pageShare, grantsOf}
+use Rattle.model.specs.Buffers.{grantsOf}
 use Rattle.model.specs.Plan.{wordsBeside}
 use Rattle.model.specs.Ring.{ringOf, slotAt}
 use Rattle.layout.specs.Copy.{requestIn}
 use Rattle.request.proofs.Expected.{expected-fits}
+use Rattle.ring.proofs.Copy.{request-copied}
 use Rattle.memory.specs.Backend.{backendOf}
 use Rattle.turn.specs.Serve.{Reads}
 use Rattle.turn.proofs.Taking.{slot-within, lentRequest, took-declined, took-started}
@@ -31,7 +31,7 @@ asked : (x : tie.After-port-at) → requestIn (x .before .before .copy-slot .res
 asked x =
     let kind = x .before .before .before .before .before in
     let e : kind .abi .result ≡ x .port-at .result .params .abi = rw (x .port-at .ensures) (kind .abi .ensures) in
-    rw (e, placed-at x) at (x .before .before .copy-slot .ensures .request)
+    rw (e, placed-at x) at (request-copied (kind .abi .result) _ _ (x .before .before .copy-slot .ensures))
 
 -- and the port is its own
 own : (x : tie.After-port-at) → Reads (backendOf (entry x .args .memory .now)) (entry x .args .k) (x .port-at .result)
