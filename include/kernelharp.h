@@ -2,13 +2,14 @@
  * Kernelharp: the request core of a Xen block backend. C99 or later, and C++.
  *
  * The host owns all memory and lends it to each call. Nothing is allocated, and nothing is kept between calls but the
- * backend memory. One backend, one thread at a time; two backends are two memories and know nothing of each other.
+ * backend memory and the meters. One backend, one thread at a time, and so with a meter; two backends are two memories
+ * and know nothing of each other.
  *
- * Every call returns 0 when it was done, else the number of a refusal: of those that it lists, the first that applies.
- * A refused call changes no byte behind any pointer, `answer` included. No content of a buffer, no length and no number
- * is an error of the caller: each has its refusal or its answer. The caller's part is that each pointer has as many
- * bytes behind it as its length or its array says, that memory and answers are aligned for uint64_t, and that the
- * buffers of one call don't overlap. A pointer with length 0 may be null.
+ * Every call on a backend returns 0 when it was done, else the number of a refusal: of those that it lists, the first
+ * that applies. A refused call changes no byte behind any pointer, `answer` included. No content of a buffer, no length
+ * and no number is an error of the caller: each has its refusal or its answer. The caller's part is that each pointer
+ * has as many bytes behind it as its length, its type or its array says, that memory, answers and meters are aligned
+ * for uint64_t, and that the buffers of one call don't overlap. A pointer with length 0 may be null.
  *
  * A call sees the rings as they are at that call. Guests may write them between calls; while a call runs they must not,
  * so a host whose guests can do so lends a copy.
@@ -34,7 +35,7 @@ extern "C" {
  * KH_MEMORY_WORDS. A host asks for both at its start and makes no other call when one of them is not the header's: the
  * header and the archive are then not of one release, or not built for the same memory.
  */
-#define KH_VERSION 300 /* 0.3.0 */
+#define KH_VERSION 400 /* 0.4.0 */
 uint32_t kh_version(void);
 uint32_t kh_memory_words(void);
 
@@ -239,6 +240,38 @@ uint32_t kh_turn(kh_memory *memory, uint8_t *rings, size_t rings_bytes, const ui
 uint32_t kh_complete(kh_memory *memory, uint8_t *rings, size_t rings_bytes, uint32_t port, uint32_t tag,
                      uint32_t serial, int32_t result, uint64_t *answer);
 
+/*
+ * A port's meter: how many of its requests were taken, and how many were answered with each status. Meters are the
+ * host's, one to a port; the backend knows none of them. All zeros are a new meter: the host zeroes one by a store of
+ * its own, whenever it likes. Opening and closing the port leave it alone. Each number stops at 2^64 - 1 by itself.
+ */
+typedef struct {
+    uint64_t taken;         /* requests that turns started or answered */
+    uint64_t okay;          /* responses with KH_OKAY, all of completions */
+    uint64_t error;         /* with KH_ERROR, of turns and completions */
+    uint64_t not_supported; /* with KH_NOT_SUPPORTED, of both too */
+} kh_meter;
+
+/*
+ * Raise a meter by what a turn or a completion did. `returned` is what kh_turn or kh_complete returned, `answer` its
+ * KH_TURN_WORDS or KH_DONE_WORDS words as they are then, and `meter` that of the port which the answer names. The meter
+ * is the only thing that changes, and there are no refusals.
+ *
+ * - started: taken.
+ * - answered: taken, and the number of its status.
+ * - a completion that was done: the number of its status.
+ * - idle, overrun, and whatever was refused: none. An idle turn and a refusal name no port, so any meter will do; of a
+ *   refused call no word is looked at.
+ *
+ * A host that hands over every answer, once and to the right meter, before it makes another call or zeroes the meter,
+ * and that hands over nothing else, finds in each number the count since it zeroed the meter.
+ *
+ * Any words may be handed over: a kind that is none of the above raises nothing, and a status word other than 0, 1 and
+ * 2 none of the last three numbers.
+ */
+void kh_meter_turn(kh_meter *meter, uint32_t returned, const uint64_t *answer);
+void kh_meter_completion(kh_meter *meter, uint32_t returned, const uint64_t *answer);
+
 /* Whether the bytes are that text. */
 static inline bool kh_is_text(const uint8_t *bytes, size_t count, const char *text) {
     size_t i = 0;
@@ -371,6 +404,7 @@ static inline kh_completed kh_read_completion(const uint64_t *answer) {
 #endif
 KH_HOLDS(lengths_have_64_bits, sizeof(size_t) == 8 && sizeof(void *) == 8);
 KH_HOLDS(memory_is_its_words, sizeof(kh_memory) == 8 * KH_MEMORY_WORDS);
+KH_HOLDS(a_meter_is_four_words, sizeof(kh_meter) == 32 && offsetof(kh_meter, not_supported) == 24);
 KH_HOLDS(rings_are_a_page_a_port, KH_RINGS_BYTES == KH_PORTS * KH_RING_BYTES);
 KH_HOLDS(grants_are_a_share_a_port, KH_GRANTS_BYTES == KH_PORTS * KH_PORT_GRANTS);
 KH_HOLDS(slots_fit_the_page, KH_HEADER_BYTES + KH_SLOTS * KH_SLOT_BYTES <= KH_RING_BYTES);

@@ -1,19 +1,22 @@
 //! The second program and the archive side by side: every call is made of both and must answer
 //! alike, so a test written for the one holds for the other.
 
+use crate::Records;
 use generate::{done_words, for_second, turn_words, UNTOUCHED};
 use kernelharp::layout::{Abi, PORTS};
 use kernelharp::words::{DONE_WORDS, TURN_WORDS};
 use kernelharp::{Completion, Memory, Turn};
 use second::{Done, Plan, Refusal, Turned};
 
-/// The calls of [`second::Backend`], made of both programs.
+/// The calls of [`second::Backend`], made of both programs. Each answer is handed over to a record.
 #[derive(Clone, Debug, PartialEq, Eq)]
 pub struct Both {
     second: second::Backend,
     archive: Memory,
     /// The layout of each port's last opening.
     abis: [Abi; PORTS],
+    /// What their hosts have counted.
+    pub records: Records,
 }
 
 /// The code and words due from the archive where the second program gave this answer.
@@ -40,6 +43,7 @@ impl Both {
             second: second::Backend::new(),
             archive: Memory::new().expect("an archive of this package"),
             abis: [Abi::default(); PORTS],
+            records: Records::default(),
         }
     }
 
@@ -73,6 +77,7 @@ impl Both {
         let code = self.archive.turn(&mut copy, grants, &mut words);
         assert_eq!((code, words), due(&answer, turn_words));
         assert!(copy == rings, "the turn left other ring bytes");
+        self.records.turn(&answer, code, &words);
         if let Ok(turned) = &answer {
             check_turn(turned, &Turn::from_words(&words).expect("a turn's words"));
         }
@@ -86,6 +91,7 @@ impl Both {
         let code = self.archive.complete(&mut copy, named, &mut words);
         assert_eq!((code, words), due(&answer, done_words));
         assert!(copy == rings, "the completion left other ring bytes");
+        self.records.completion(&answer, code, &words);
         if let Ok(done) = &answer {
             let typed = kernelharp::Done::from_words(&words).expect("a completion's words");
             let parts = (typed.port.number(), typed.status as i32, typed.notify);

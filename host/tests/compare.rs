@@ -2,8 +2,10 @@
 //!
 //! After each call both must have returned the same number and left the same answer words, ring
 //! bytes, grants and sheet; a refused call must have left its answer and every word of the archive's
-//! memory; and the checker of demand 3 follows the archive's history over every list. The counts of
-//! what occurred are printed, and a class that did not occur fails the test.
+//! memory; and the checker of demand 3 follows the archive's history over every list. Each answer is
+//! handed over to a record of counters, which both must raise alike and as the history says; any words
+//! are, too, to records of any numbers. The counts of what occurred are printed, and a class that did
+//! not occur fails the test.
 //!
 //! - `KH_CALLS`: how many calls in all, 2,000,000 unless set. With fewer than that the classes are
 //!   printed only.

@@ -1,142 +1,8 @@
 //! The checker of demand 3 says no where it has to: histories made by hand, no backend in them.
 
-use history::{Event, History};
-use kernelharp::layout::{
-    write_u32, Abi, GRANTS_BYTES, REQ_EVENT, REQ_PROD, RINGS_BYTES, RING_BYTES,
-};
-use kernelharp::words::{done, kind, turn, DONE_WORDS, TURN_WORDS};
-use tests::{usual_sheet, usual_sheet_of};
-
-/// A history with the first `ports` ports open, and the rings lent to it. All requests are
-/// zeros: the pair (0, 0), which zeros in a response answer.
-struct Story {
-    history: History,
-    rings: Vec<u8>,
-    left: Vec<u8>,
-}
-
-type Checked = Result<(), String>;
-
-/// Id and operation.
-type Pair = (u64, u8);
-
-impl Story {
-    fn new(ports: u32) -> Story {
-        let mut story = Story {
-            history: History::new(),
-            rings: vec![0; RINGS_BYTES],
-            left: vec![0; RINGS_BYTES],
-        };
-        for port in 0..ports {
-            story.open(port, 0).unwrap();
-        }
-        story
-    }
-
-    /// A history with port 0 open in a layout, and `req_prod` requests on its page.
-    fn of(abi: Abi, req_prod: u32) -> Story {
-        let mut story = Story::new(0);
-        story.open_sheet(0, &usual_sheet_of(abi), 0).unwrap();
-        story.publish_up_to(0, req_prod);
-        story
-    }
-
-    fn open_sheet(&mut self, port: u32, sheet: &[u8], code: u32) -> Checked {
-        self.history.check(&Event::Open { port, sheet, code })
-    }
-
-    fn open(&mut self, port: u32, code: u32) -> Checked {
-        self.open_sheet(port, &usual_sheet(), code)
-    }
-
-    fn close(&mut self, port: u32, code: u32) -> Checked {
-        self.history.check(&Event::Close { port, code })
-    }
-
-    fn set(&mut self, port: usize, at: usize, value: u32) {
-        write_u32(&mut self.rings, RING_BYTES * port + at, value);
-        self.left.clone_from(&self.rings);
-    }
-
-    fn publish_up_to(&mut self, port: usize, value: u32) {
-        self.set(port, REQ_PROD, value);
-    }
-
-    /// Port 0's guest writes a request's pair.
-    fn ask(&mut self, abi: Abi, index: u32, (id, operation): Pair) {
-        let at = abi.slot_at(index);
-        self.rings[at] = operation;
-        self.rings[at + abi.id_at()..][..8].copy_from_slice(&id.to_le_bytes());
-        self.left.clone_from(&self.rings);
-    }
-
-    /// The next call leaves a response's pair on port 0's page.
-    fn answer(&mut self, abi: Abi, index: u32, (id, operation): Pair) {
-        let at = abi.slot_at(index);
-        self.left[at..][..8].copy_from_slice(&id.to_le_bytes());
-        self.left[at + 8] = operation;
-    }
-
-    /// A turn whose answer has these words, and zeros.
-    fn turn(&mut self, words: &[(usize, u64)]) -> Checked {
-        let mut answer = [0; TURN_WORDS];
-        for &(at, word) in words {
-            answer[at] = word;
-        }
-        let checked = self.history.check(&Event::Turn {
-            lent: &self.rings,
-            left: &self.left,
-            grants: &[0; GRANTS_BYTES],
-            code: 0,
-            answer: &answer,
-        });
-        self.rings.clone_from(&self.left);
-        checked
-    }
-
-    /// A turn that answers a request with a reason.
-    fn answered(&mut self, port: u64) -> Checked {
-        self.turn(&[(turn::KIND, kind::ANSWERED), (turn::PORT, port)])
-    }
-
-    fn started(&mut self, port: u64, tag: u64, serial: u64) -> Checked {
-        self.turn(&[
-            (turn::KIND, kind::STARTED),
-            (turn::PORT, port),
-            (turn::TAG, tag),
-            (turn::SERIAL, serial),
-        ])
-    }
-
-    fn overrun(&mut self, port: u64) -> Checked {
-        self.turn(&[(turn::KIND, kind::OVERRUN), (turn::PORT, port)])
-    }
-
-    fn idle(&mut self) -> Checked {
-        self.turn(&[(turn::KIND, kind::IDLE)])
-    }
-
-    fn complete(&mut self, port: u32, tag: u32, serial: u32, code: u32) -> Checked {
-        let mut answer = [0; DONE_WORDS];
-        answer[done::PORT] = u64::from(port);
-        self.history.check(&Event::Complete {
-            lent: &self.rings,
-            left: &self.left,
-            port,
-            tag,
-            serial,
-            result: 0,
-            code,
-            answer: &answer,
-        })
-    }
-}
-
-#[track_caller]
-fn faulty(checked: Checked, words: &str) {
-    let fault = checked.expect_err("the checker saw no fault");
-    assert!(fault.contains(words), "another fault: {fault}");
-}
+use kernelharp::layout::{Abi, REQ_EVENT};
+use kernelharp::words::turn;
+use tests::{faulty, usual_sheet_of, Pair, Story};
 
 #[test]
 fn another_port_served_twice() {
@@ -336,7 +202,6 @@ fn reopened_with_the_other_layout() {
             story.started(0, 0, u64::from(index)).unwrap();
             story.answer(other, index, pair);
             story.complete(0, 0, index, 0).unwrap();
-            story.rings.clone_from(&story.left);
         }
     }
 }

@@ -113,7 +113,8 @@ struct Host {
 }
 
 impl Host {
-    /// Does what one line of the list says: a guest's write has no answer, a remark is kept.
+    /// Does what one line of the list says: a write of a guest's or the host's own has no answer, a
+    /// remark is kept.
     fn obey(&mut self, call: &str) -> Option<String> {
         let Host {
             backend,
@@ -151,6 +152,14 @@ impl Host {
                 let named = words.completion();
                 let done = backend.complete(&mut rings[..length], named);
                 Some(completed(done))
+            }
+            "m" => {
+                let [taken, okay, error, not_supported] = backend.records.of(words.next());
+                Some(format!("meter {taken} {okay} {error} {not_supported}"))
+            }
+            "z" => {
+                backend.records.zero(words.next());
+                None
             }
             _ => Some(call.to_string()),
         }

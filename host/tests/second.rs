@@ -4,7 +4,7 @@
 use generate::{run, Core, Generator, Step, World};
 use kernelharp::layout::{page, page_mut, read_u32, write_u32, Abi, PORTS, RSP_PROD};
 use kernelharp::words::{done, kind, turn, DoneWords, TurnWords};
-use kernelharp::Completion;
+use kernelharp::{Completion, Meter};
 use second::{Backend, Refusal};
 
 const SEED: u64 = 0x6B65_726E_656C;
@@ -100,7 +100,30 @@ enum Flaw {
     Close,
     /// A sheet of a wrong shape is refused with another number.
     Sheet,
+    /// An overrun counts as a request taken.
+    MeterOverrun,
+    /// An idle turn counts as a request taken.
+    MeterIdle,
+    /// A refused call counts, by the words of the call before.
+    MeterRefused,
+    /// The status -2 counts as -1.
+    MeterStatus,
+    /// Each answer counts twice.
+    MeterTwice,
+    /// Of the kind and the status, 32 bits are looked at.
+    MeterNarrow,
+    /// The requests taken go on from 2^64 - 1 to 0.
+    MeterWrap,
 }
+
+/// The flaws of the counters that a history shows.
+const METER_FLAWS: [Flaw; 5] = [
+    Flaw::MeterOverrun,
+    Flaw::MeterIdle,
+    Flaw::MeterRefused,
+    Flaw::MeterStatus,
+    Flaw::MeterTwice,
+];
 
 struct Flawed {
     backend: Backend,
@@ -140,6 +163,33 @@ impl Flawed {
             _ => return,
         };
         write_u32(page_mut(rings, port), at, bytes);
+    }
+
+    /// What the flaw makes of the words that both kinds of answers have.
+    fn misread(&self, returned: &mut u32, status: &mut u64) {
+        match self.flaw {
+            Flaw::MeterRefused => *returned = 0,
+            Flaw::MeterStatus if *status == 2 => *status = 1,
+            Flaw::MeterNarrow => *status = u64::from(*status as u32),
+            _ => {}
+        }
+    }
+
+    /// Raises a record, in the flaw's way.
+    fn raise(&self, meter: &mut Meter, raise: impl Fn(&mut Meter)) {
+        let full = meter.taken == u64::MAX;
+        match self.flaw {
+            Flaw::MeterTwice => {
+                raise(meter);
+                raise(meter);
+            }
+            Flaw::MeterWrap if full => {
+                meter.taken = 0;
+                raise(meter);
+                meter.taken = meter.taken.wrapping_sub(1);
+            }
+            _ => raise(meter),
+        }
     }
 }
 
@@ -219,11 +269,35 @@ impl Core for Flawed {
         }
         code
     }
+
+    fn meter_turn(&self, meter: &mut Meter, returned: u32, answer: &TurnWords) {
+        let (mut returned, mut words) = (returned, *answer);
+        self.misread(&mut returned, &mut words[turn::STATUS]);
+        let kind = &mut words[turn::KIND];
+        match (self.flaw, *kind) {
+            (Flaw::MeterIdle, kind::IDLE) | (Flaw::MeterOverrun, kind::OVERRUN) => {
+                *kind = kind::STARTED;
+            }
+            (Flaw::MeterNarrow, word) => *kind = u64::from(word as u32),
+            _ => {}
+        }
+        self.raise(meter, |meter| {
+            self.backend.meter_turn(meter, returned, &words)
+        });
+    }
+
+    fn meter_completion(&self, meter: &mut Meter, returned: u32, answer: &DoneWords) {
+        let (mut returned, mut words) = (returned, *answer);
+        self.misread(&mut returned, &mut words[done::STATUS]);
+        self.raise(meter, |meter| {
+            self.backend.meter_completion(meter, returned, &words)
+        });
+    }
 }
 
 #[test]
 fn flawed_programs_are_found() {
-    for flaw in [
+    let flaws = [
         Flaw::Padding,
         Flaw::NoPadding,
         Flaw::Layout,
@@ -235,7 +309,10 @@ fn flawed_programs_are_found() {
         Flaw::Memory,
         Flaw::Close,
         Flaw::Sheet,
-    ] {
+        Flaw::MeterNarrow,
+        Flaw::MeterWrap,
+    ];
+    for flaw in flaws.into_iter().chain(METER_FLAWS) {
         let mut flawed = Flawed::new(flaw);
         let failure = run(&mut [&mut Backend::new(), &mut flawed], SEED, 20_000)
             .expect_err("a flawed program agrees with the second");
@@ -245,14 +322,15 @@ fn flawed_programs_are_found() {
 
 #[test]
 fn flaws_against_demand_3_are_found_without_a_second_program() {
-    for flaw in [
+    let flaws = [
         Flaw::Layout,
         Flaw::LayoutKept,
         Flaw::Answer,
         Flaw::Memory,
         Flaw::Close,
         Flaw::Sheet,
-    ] {
+    ];
+    for flaw in flaws.into_iter().chain(METER_FLAWS) {
         let mut flawed = Flawed::new(flaw);
         let failure =
             run(&mut [&mut flawed], SEED, 20_000).expect_err("a flawed program keeps demand 3");

@@ -97,6 +97,13 @@ static inline void give_back(uint8_t *buffer, size_t bytes) {
         munmap(buffer - guarded_offset(bytes), in_pages(bytes) + 2 * in_pages(1));
 }
 
+/* Whether a buffer may be written to. On the heap that can't be forbidden. */
+static inline void allow_writes(uint8_t *buffer, size_t bytes, bool allowed) {
+    uint8_t *pages = buffer - guarded_offset(bytes) + in_pages(1);
+    if (placement != ON_HEAP && mprotect(pages, in_pages(bytes), allowed ? PROT_READ | PROT_WRITE : PROT_READ) != 0)
+        abort();
+}
+
 /* ---- little-endian numbers */
 
 static inline void put(uint8_t *at, unsigned bytes, uint64_t value) {

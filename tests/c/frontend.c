@@ -2,7 +2,7 @@
  * Eight front ends on Xen's own ring macros, half of them with the records of 32-bit guests, served through the
  * library. Requests of every kind, good and broken, go through many wraps of the rings; each gets one response, with
  * its id, its operation and the status due. Beside the library runs a back end on the same macros, on a copy of the
- * pages: both leave the same bytes and say the same of notifications.
+ * pages: both leave the same bytes and say the same of notifications. The ports' meters say at the end what was due.
  *
  * Nobody looks at a ring without being notified: a wake-up that is missing leaves requests unanswered at the end.
  */
@@ -120,6 +120,19 @@ static bool all_collected(const world *w) {
     return true;
 }
 
+/* Each request was taken and answered once, with the status that was due on it. */
+static void check_meter(const host *h, uint32_t port) {
+    kh_meter due = {REQUESTS, 0, 0, 0};
+    for (uint32_t number = 0; number < REQUESTS; number++) {
+        int16_t status = status_due(port, number);
+        due.okay += status == BLKIF_RSP_OKAY;
+        due.error += status == BLKIF_RSP_ERROR;
+        due.not_supported += status == BLKIF_RSP_EOPNOTSUPP;
+    }
+    CHECK(due.okay > 0 && due.error > 0 && due.not_supported > 0);
+    CHECK(memcmp(meter_of(h, port), &due, sizeof due) == 0);
+}
+
 static void frontend_on_xen_macros(host *h) {
     static world w;
     uint64_t state = 1;
@@ -132,6 +145,7 @@ static void frontend_on_xen_macros(host *h) {
     for (uint32_t port = 0; port < KH_PORTS; port++) {
         CHECK_EQ(w.guests[port].collected, REQUESTS);
         CHECK_EQ(index_at(h, port, KH_RSP_PROD), REQUESTS);
+        check_meter(h, port);
         CHECK_EQ(CLOSE(h, port), KH_OK);
     }
     CHECK(w.notified[0] > 1000 && w.notified[1] > 1000);

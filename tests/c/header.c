@@ -45,6 +45,15 @@ static void check_layouts(void) {
     CHECK_EQ(kh_response_bytes(KH_BITS32), 12);
 }
 
+/* The record as the archive has it: four words, in this order. */
+static void check_meter_places(void) {
+    CHECK_EQ(sizeof(kh_meter), 4 * sizeof(uint64_t));
+    CHECK_EQ(offsetof(kh_meter, taken), 0);
+    CHECK_EQ(offsetof(kh_meter, okay), 8);
+    CHECK_EQ(offsetof(kh_meter, error), 16);
+    CHECK_EQ(offsetof(kh_meter, not_supported), 24);
+}
+
 /* A guest's read of sectors 8 to 15 into frame 9, on port 1. */
 static void publish_read(void) {
     uint8_t *page = rings + 1 * KH_RING_BYTES;
@@ -68,23 +77,29 @@ static void check_started_read(const kh_turned *turned) {
     CHECK(extent->frame == 9 && extent->first == 0 && extent->length == 8 && extent->sector == 8);
 }
 
-/* The four calls, once each, as a host would. */
+/* The calls, once each, as a host would. */
 static void check_calls(void) {
     static const uint8_t sheet[21] = {3, 1, 0, 1, 0, 6, 0, 3, 0, 7, 0, 4, 0, 'w', '5', '1', '2', '2', '0', '0', '8'};
     uint64_t answer[KH_TURN_WORDS];
     uint64_t done[KH_DONE_WORDS];
+    kh_meter meter = {0, 0, 0, 0};
     kh_turned turned;
     kh_completed completed;
+    uint32_t returned;
     publish_read();
     CHECK_EQ(kh_open(&memory, 1, NULL, 0), KH_SHEET_SHAPE);
     CHECK_EQ(kh_open(&memory, 1, sheet, sizeof sheet), KH_OK);
     CHECK_EQ(kh_turn(&memory, NULL, 0, NULL, 0, answer), KH_WRONG_LENGTH);
-    CHECK_EQ(kh_turn(&memory, rings, sizeof rings, grants, sizeof grants, answer), KH_OK);
+    returned = kh_turn(&memory, rings, sizeof rings, grants, sizeof grants, answer);
+    CHECK_EQ(returned, KH_OK);
+    kh_meter_turn(&meter, returned, answer);
     turned = kh_read_turn(answer);
     check_started_read(&turned);
     CHECK_EQ(kh_close(&memory, 1), KH_IN_FLIGHT);
-    CHECK_EQ(kh_complete(&memory, rings, sizeof rings, turned.port, turned.plan.tag, turned.plan.serial, 8, done),
-             KH_OK);
+    returned = kh_complete(&memory, rings, sizeof rings, turned.port, turned.plan.tag, turned.plan.serial, 8, done);
+    CHECK_EQ(returned, KH_OK);
+    kh_meter_completion(&meter, returned, done);
+    CHECK(meter.taken == 1 && meter.okay == 1 && meter.error == 0 && meter.not_supported == 0);
     completed = kh_read_completion(done);
     CHECK(completed.port == 1 && completed.status == KH_OKAY && completed.notify);
     CHECK_EQ(kh_close(&memory, 1), KH_OK);
@@ -119,6 +134,7 @@ int main(void) {
     check_archive_matches_header();
     check_names();
     check_layouts();
+    check_meter_places();
     check_calls();
     check_turn_reader();
     check_completion_reader();

@@ -1,6 +1,7 @@
 /*
  * A host that keeps books of what was answered, and checks of each call all that holds of every call: what a refused
- * one leaves alone, the words that an answer does not use, and every ring byte.
+ * one leaves alone, the words that an answer does not use, and every ring byte. It hands each answer over to the meter
+ * of its port, and sees to it that the meters say what it counted by itself.
  */
 #ifndef HOST_H
 #define HOST_H
@@ -9,7 +10,7 @@
 #include "kernelharp.h"
 
 /* What was lent, in the order of the buffers below. */
-enum area { MEMORY, RINGS, GRANTS, TURNED, COMPLETED, AREAS };
+enum area { MEMORY, RINGS, GRANTS, TURNED, COMPLETED, METERS, AREAS };
 
 typedef struct {
     uint64_t id;
@@ -45,7 +46,8 @@ typedef struct {
     uint8_t *before[AREAS]; /* as it was before the last call */
     size_t bytes[AREAS];
     book books[KH_PORTS];
-    enum kh_abi abi; /* of the ports that are opened by nodes that name no protocol */
+    kh_meter counts[KH_PORTS]; /* what each meter has to say, whatever opens and closes between */
+    enum kh_abi abi;           /* of the ports that are opened by nodes that name no protocol */
 } host;
 
 static inline uint64_t *words(const host *h, enum area area) {
@@ -54,6 +56,15 @@ static inline uint64_t *words(const host *h, enum area area) {
 
 static inline kh_memory *memory_of(const host *h) {
     return (kh_memory *)(void *)h->at[MEMORY];
+}
+
+static inline kh_meter *meter_of(const host *h, uint32_t port) {
+    return (kh_meter *)(void *)h->at[METERS] + port;
+}
+
+/* Puts other numbers into a port's meter; zeros begin it anew. */
+static inline void set_meter(host *h, uint32_t port, kh_meter numbers) {
+    *meter_of(h, port) = h->counts[port] = numbers;
 }
 
 static inline uint8_t *ring(const host *h, uint32_t port) {
@@ -101,10 +112,10 @@ static inline void resize(host *h, enum area area, size_t bytes) {
     h->before[area] = bytes > 0 ? (uint8_t *)malloc(bytes) : NULL;
 }
 
-/* The empty backend, empty rings, and frames 0 to 15 of every port granted for read and write. */
+/* The empty backend, empty rings, new meters, and frames 0 to 15 of every port granted for read and write. */
 static inline void reset(host *h) {
-    static const size_t bytes[AREAS] = {8 * KH_MEMORY_WORDS, KH_RINGS_BYTES, KH_GRANTS_BYTES, 8 * KH_TURN_WORDS,
-                                        8 * KH_DONE_WORDS};
+    static const size_t bytes[AREAS] = {8 * KH_MEMORY_WORDS, KH_RINGS_BYTES,    KH_GRANTS_BYTES,
+                                        8 * KH_TURN_WORDS,   8 * KH_DONE_WORDS, KH_PORTS * sizeof(kh_meter)};
     for (int area = 0; area < AREAS; area++) {
         if (h->bytes[area] != bytes[area])
             resize(h, (enum area)area, bytes[area]);
@@ -113,6 +124,7 @@ static inline void reset(host *h) {
     for (uint32_t port = 0; port < KH_PORTS; port++)
         memset(h->at[GRANTS] + KH_PORT_GRANTS * port, KH_GRANT_READ_WRITE, 16);
     memset(h->books, 0, sizeof h->books);
+    memset(h->counts, 0, sizeof h->counts);
 }
 
 /* ---- what holds of every call */
@@ -124,7 +136,8 @@ static inline void remember(const host *h) {
 }
 
 static inline void check_same(const host *h, enum area area) {
-    static const char *const names[AREAS] = {"memory", "rings", "grants", "turn's answer", "completion's answer"};
+    static const char *const names[AREAS] = {"memory", "rings", "grants", "turn's answer", "completion's answer",
+                                             "meters"};
     size_t i = 0;
     if (h->bytes[area] == 0 || memcmp(h->at[area], h->before[area], h->bytes[area]) == 0)
         return;
@@ -141,12 +154,39 @@ static inline void check_kept(const host *h, uint32_t number, unsigned changes) 
             check_same(h, (enum area)area);
 }
 
+/* Up to the top, where a number stays. */
+static inline void raise_number(uint64_t *number) {
+    *number += *number < UINT64_MAX;
+}
+
+/* Counts a response by its status, the sign left out. */
+static inline void count_status(kh_meter *counts, uint64_t status) {
+    raise_number(status == 0 ? &counts->okay : status == 1 ? &counts->error : &counts->not_supported);
+}
+
+/* Raises a meter by an answer, which is left as it was. */
+static inline void raise_meter(const host *h, enum area area, kh_meter *meter, uint32_t number) {
+    memcpy(h->before[area], h->at[area], h->bytes[area]);
+    allow_writes(h->at[area], h->bytes[area], false);
+    (area == TURNED ? kh_meter_turn : kh_meter_completion)(meter, number, words(h, area));
+    allow_writes(h->at[area], h->bytes[area], true);
+    check_same(h, area);
+}
+
+/* Hands an answer over to a port's meter, with the number that its call returned: all meters say what was counted. */
+static inline void hand_over(const host *h, enum area area, uint32_t number, uint32_t port) {
+    raise_meter(h, area, meter_of(h, port), number);
+    memcpy(h->before[METERS], h->counts, sizeof h->counts);
+    check_same(h, METERS);
+}
+
 /* Puts a port's next response into the page that it was before the call, and checks the call's notify. */
 static inline void expect_response(host *h, uint32_t port, const started *request, uint64_t status, uint64_t notify) {
     const layout *l = layout_of(h, port);
     uint8_t *page = h->before[RINGS] + KH_RING_BYTES * port;
     uint8_t *slot = page + slot_offset(l, h->books[port].answered++);
     CHECK_EQ(notify, get(page + KH_RSP_EVENT, 4) == h->books[port].answered);
+    count_status(&h->counts[port], status);
     put(slot, 8, request->id);
     put(slot + 8, 2, request->operation);
     put(slot + 10, 2, 0 - status);
@@ -216,6 +256,8 @@ static inline void check_turn(host *h) {
         check_answered(h, port, request, answer);
     else
         b->open = false;
+    if (answer[KH_TURN_KIND] == KH_STARTED || answer[KH_TURN_KIND] == KH_ANSWERED)
+        raise_number(&h->counts[port].taken);
     check_same(h, RINGS);
     for (unsigned word = 0; word < KH_TURN_WORDS; word++)
         if (!uses_word(answer, word))
@@ -279,6 +321,7 @@ static inline uint32_t do_turn(host *h) {
     check_kept(h, number, 1 << MEMORY | 1 << RINGS | 1 << TURNED);
     if (number == KH_OK)
         check_turn(h);
+    hand_over(h, TURNED, number, words(h, TURNED)[KH_TURN_PORT] % KH_PORTS);
     return number;
 }
 
@@ -290,6 +333,7 @@ static inline uint32_t do_complete(host *h, uint32_t port, uint32_t tag, uint32_
     check_kept(h, number, 1 << MEMORY | 1 << RINGS | 1 << COMPLETED);
     if (number == KH_OK)
         check_completion(h, port, tag, serial, result);
+    hand_over(h, COMPLETED, number, port % KH_PORTS);
     return number;
 }
 

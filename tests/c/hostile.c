@@ -1,35 +1,15 @@
 /*
  * Any bytes, any lengths and any numbers, in long pseudo-random lists of calls: each returns one of its numbers, a
  * refused one changes nothing, and none reads or writes beside its buffers.
+ *
+ * No expression below draws twice where C leaves the order open, so that a seed gives one list of calls.
  */
+#include "any.h"
 #include "test.h"
 
 enum { CALLS = 150000, LAST_NUMBER = 15 };
 
 static const uint64_t seed = UINT64_C(0x6B65726E656C6861);
-
-static uint64_t state;
-
-/* splitmix64. No expression below draws twice where C leaves the order open, so that a seed gives one list of calls. */
-static uint64_t any(void) {
-    uint64_t z = state += UINT64_C(0x9E3779B97F4A7C15);
-    z = (z ^ z >> 30) * UINT64_C(0xBF58476D1CE4E5B9);
-    z = (z ^ z >> 27) * UINT64_C(0x94D049BB133111EB);
-    return z ^ z >> 31;
-}
-
-static uint32_t below(uint32_t bound) {
-    return (uint32_t)(any() >> 33) % bound;
-}
-
-static bool one_in(uint32_t n) {
-    return below(n) == 0;
-}
-
-static void fill(uint8_t *bytes, size_t count) {
-    for (size_t i = 0; i < count; i++)
-        bytes[i] = (uint8_t)any();
-}
 
 /* ---- which numbers came */
 
@@ -177,6 +157,13 @@ static void guest_writes(const host *h, uint32_t port) {
     grant(h, port, frame, one_in(4) ? (uint8_t)below(4) : KH_GRANT_READ_WRITE);
 }
 
+/* A host zeroes a meter when it likes; near the top, more calls find a number that stays. */
+static void host_writes(host *h, uint32_t port) {
+    uint64_t from = one_in(2) ? 0 : UINT64_MAX - below(8);
+    if (one_in(64))
+        set_meter(h, port, (kh_meter){from, from, from, from});
+}
+
 /* One buffer has a wrong length for one call, once in a while. */
 static bool lend_wrongly(host *h) {
     static const size_t lengths[] = {
@@ -248,6 +235,7 @@ static void any_calls_from_the_empty_backend(host *h) {
     for (int i = 0; i < CALLS; i++) {
         bool wrong;
         guest_writes(h, below(KH_PORTS));
+        host_writes(h, below(KH_PORTS));
         wrong = lend_wrongly(h);
         call_any(h);
         if (wrong)

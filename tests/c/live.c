@@ -16,6 +16,7 @@ static kh_memory lender;
 static kh_turned plans[PLANS]; /* in flight, or completed before */
 static uint32_t published[KH_PORTS];
 static unsigned long came[4], opened[2], relaid, refused, drawn_back;
+static kh_meter counted[KH_PORTS], billed[KH_PORTS]; /* by this file; by the listing, taken from time to time */
 
 static uint64_t state = UINT64_C(0x6B65726E656C6861);
 
@@ -85,11 +86,30 @@ static bool same_plan(const kh_plan *a, const kh_plan *b) {
     return holds;
 }
 
+/* ---- the meters */
+
+static void count_status(uint32_t port, int32_t status) {
+    counted[port].okay += status == KH_OKAY;
+    counted[port].error += status == KH_ERROR;
+    counted[port].not_supported += status == KH_NOT_SUPPORTED;
+}
+
+static void bill(uint32_t port) {
+    kh_meter meter = host_take_meter(port);
+    billed[port].taken += meter.taken;
+    billed[port].okay += meter.okay;
+    billed[port].error += meter.error;
+    billed[port].not_supported += meter.not_supported;
+}
+
 static void turn_both(void) {
     kh_turned here = host_turn(), there = lent_turn();
     same("turn", here.kind == there.kind && here.port == there.port && here.reason == there.reason &&
                      here.notify == there.notify && same_plan(&here.plan, &there.plan));
     came[here.kind]++;
+    counted[here.port].taken += here.kind == KH_STARTED || here.kind == KH_ANSWERED;
+    if (here.kind == KH_ANSWERED)
+        count_status(here.port, here.status);
     if (here.kind == KH_STARTED)
         plans[KH_TAGS * here.port + here.plan.tag] = here;
 }
@@ -102,6 +122,8 @@ static void complete_both(const kh_turned *turned, int32_t result) {
     uint32_t there = kh_complete(&lender, (uint8_t *)lent, sizeof lent, turned->port, tag, serial, result, answer);
     same("complete", here == there && notify == kh_read_completion(answer).notify);
     refused += here != KH_OK;
+    if (here == KH_OK)
+        count_status(turned->port, kh_read_completion(answer).status);
 }
 
 static void open_both(uint32_t port) {
@@ -148,6 +170,9 @@ static void step(uint32_t port) {
     case 2:
         draw_back(port);
         break;
+    case 3:
+        bill(port);
+        break;
     default:
         if (below(3) == 0)
             guest_step(port);
@@ -164,6 +189,9 @@ int main(void) {
         open_both(port);
     for (int i = 0; i < STEPS; i++)
         step(below(KH_PORTS));
+    for (uint32_t port = 0; port < KH_PORTS; port++)
+        bill(port);
+    same("meters", memcmp(billed, counted, sizeof billed) == 0);
     printf("     %d steps: idle %lu, started %lu, answered %lu, overrun %lu, opened 64-bit %lu, 32-bit %lu, "
            "in another layout than before %lu, completions refused %lu, drawn back %lu\n",
            STEPS, came[KH_IDLE], came[KH_STARTED], came[KH_ANSWERED], came[KH_OVERRUN], opened[KH_BITS64],

@@ -106,6 +106,15 @@ static inline void post(const host *h, uint32_t port, request r) {
     set_index(h, port, KH_REQ_PROD, index + 1);
 }
 
+/* A turn's kind, with its port checked. */
+static inline uint64_t do_serve(host *h, uint32_t port) {
+    CHECK_EQ(do_turn(h), KH_OK);
+    CHECK_EQ(words(h, TURNED)[KH_TURN_PORT], port);
+    return words(h, TURNED)[KH_TURN_KIND];
+}
+
+#define SERVE(h, port) MADE_HERE(do_serve(h, port))
+
 /* Completes the request that the last turn started, as the host expects it. */
 static inline uint32_t do_finish(host *h) {
     kh_turned turned = kh_read_turn(words(h, TURNED));
@@ -136,6 +145,15 @@ static inline void do_begin(host *h, const char *nodes) {
 }
 
 #define BEGIN(h, nodes) MADE_HERE(do_begin(h, nodes))
+
+/* Port 0 closed and opened again, with its guest's ring new too. */
+static inline void do_reopen(host *h) {
+    CHECK_EQ(do_close(h, 0), KH_OK);
+    CHECK_EQ(do_open_nodes(h, 0, USUAL_NODES), KH_OK);
+    set_index(h, 0, KH_REQ_PROD, 0);
+}
+
+#define REOPEN(h) MADE_HERE(do_reopen(h))
 
 /* ---- the run */
 

@@ -4,15 +4,6 @@
  */
 #include "test.h"
 
-/* A turn's kind, with its port checked. */
-static uint64_t do_serve(host *h, uint32_t port) {
-    CHECK_EQ(do_turn(h), KH_OK);
-    CHECK_EQ(words(h, TURNED)[KH_TURN_PORT], port);
-    return words(h, TURNED)[KH_TURN_KIND];
-}
-
-#define SERVE(h, port) MADE_HERE(do_serve(h, port))
-
 /* Port 0 open, with so many requests taken and answered, and so many more taken. */
 static void begin_at(host *h, unsigned answered, unsigned in_flight) {
     BEGIN(h, USUAL_NODES);
@@ -24,13 +15,6 @@ static void begin_at(host *h, unsigned answered, unsigned in_flight) {
     }
 }
 
-/* Port 0 closed and opened again, with its guest's ring new too. */
-static void reopen(host *h) {
-    CHECK_EQ(CLOSE(h, 0), KH_OK);
-    CHECK_EQ(OPEN_NODES(h, 0, USUAL_NODES), KH_OK);
-    set_index(h, 0, KH_REQ_PROD, 0);
-}
-
 /*
  * Port 0 open, with both indices at a value that no test can get to by requests. Their words are those that one
  * answered request raises from 0 to 1; the pointer would be a third, so it is moved to 1 before.
@@ -40,7 +24,7 @@ static void begin_at_index(host *h, uint32_t value) {
     BEGIN(h, USUAL_NODES);
     set_index(h, 0, KH_REQ_PROD, 33);
     CHECK_EQ(SERVE(h, 0), KH_OVERRUN);
-    reopen(h);
+    REOPEN(h);
     post(h, 0, transfer(KH_READ, 0, 0));
     CHECK_EQ(SERVE(h, 0), KH_ANSWERED);
     for (int i = 0; i < KH_MEMORY_WORDS; i++)
@@ -116,7 +100,7 @@ static void overrun_breaks_the_port(host *h) {
     CHECK_EQ(COMPLETE(h, 0, 1, 1, 8), KH_OK);
     CHECK_EQ(COMPLETE(h, 0, 0, 0, -5), KH_OK);
     CHECK_EQ(SERVE(h, 0), KH_IDLE);
-    reopen(h);
+    REOPEN(h);
     post(h, 0, transfer(KH_READ, 1, 0));
     CHECK_EQ(SERVE(h, 0), KH_STARTED);
     CHECK_EQ(words(h, TURNED)[KH_TURN_SERIAL], 0);
@@ -219,7 +203,7 @@ static void lowest_free_tag_comes_back(host *h) {
 static void stale_completion_of_a_newer_request(host *h) {
     begin_at(h, 0, 1);
     CHECK_EQ(COMPLETE(h, 0, 0, 0, 8), KH_OK);
-    reopen(h);
+    REOPEN(h);
     CHECK_EQ(COMPLETE(h, 0, 0, 0, 8), 6);
     post(h, 0, transfer(KH_READ, 1, 0));
     CHECK_EQ(SERVE(h, 0), KH_STARTED);

@@ -14,6 +14,9 @@ uint32_t __real_kh_turn(kh_memory *memory, uint8_t *rings, size_t rings_bytes, c
 uint32_t __real_kh_complete(kh_memory *memory, uint8_t *rings, size_t rings_bytes, uint32_t port, uint32_t tag,
                             uint32_t serial, int32_t result, uint64_t *answer);
 
+typedef void raise_meter(kh_meter *meter, uint32_t returned, const uint64_t *answer);
+raise_meter __real_kh_meter_turn, __real_kh_meter_completion, __wrap_kh_meter_turn, __wrap_kh_meter_completion;
+
 static bool wrong(const char *fault) {
     const char *chosen = getenv("WRONG");
     return chosen != NULL && strcmp(chosen, fault) == 0;
@@ -167,4 +170,76 @@ uint32_t __wrap_kh_complete(kh_memory *memory, uint8_t *rings, size_t rings_byte
     if (wrong("completed_as_64_bit") && number == KH_OK)
         pad_response(rings, port);
     return number;
+}
+
+/* ---- meters */
+
+/* What a meter takes an answer's kind for. */
+static uint64_t kind_seen(uint64_t kind) {
+    if (wrong("overrun_is_taken") && kind == KH_OVERRUN)
+        return KH_STARTED;
+    if (wrong("idle_is_taken") && kind == KH_IDLE)
+        return KH_STARTED;
+    if (wrong("answered_as_started") && kind == KH_ANSWERED)
+        return KH_STARTED;
+    return wrong("kind_of_32_bits") ? (uint32_t)kind : kind;
+}
+
+static uint64_t status_seen(uint64_t status) {
+    if (wrong("error_for_not_supported") && status == 2)
+        return 1;
+    if (wrong("any_other_status_is_error") && status > 2)
+        return 1;
+    return wrong("status_of_32_bits") ? (uint32_t)status : status;
+}
+
+static bool is_at_top(const kh_meter *meter) {
+    return meter->taken == UINT64_MAX || meter->okay == UINT64_MAX || meter->error == UINT64_MAX ||
+           meter->not_supported == UINT64_MAX;
+}
+
+/* Raises a meter with no regard to the top. */
+static void raise_over_top(raise_meter *real, kh_meter *meter, uint32_t returned, const uint64_t *answer) {
+    kh_meter by = {0, 0, 0, 0};
+    real(&by, returned, answer);
+    meter->taken += by.taken;
+    meter->okay += by.okay;
+    meter->error += by.error;
+    meter->not_supported += by.not_supported;
+}
+
+/* `answer` is what was lent, and `seen` what is taken for it. */
+static void spoil_meter(raise_meter *real, kh_meter *meter, uint32_t returned, const uint64_t *answer,
+                        const uint64_t *seen) {
+    volatile uint64_t *lent = (volatile uint64_t *)(uintptr_t)answer;
+    peek("before_meter", "after_meter", meter, sizeof *meter);
+    if (wrong("stores_to_answer"))
+        lent[0] = lent[0];
+    if (wrong("numbers_wrap"))
+        raise_over_top(real, meter, returned, seen);
+    else if (!wrong("numbers_stop_together") || !is_at_top(meter))
+        real(meter, returned, seen);
+}
+
+void __wrap_kh_meter_turn(kh_meter *meter, uint32_t returned, const uint64_t *answer) {
+    uint64_t seen[KH_TURN_WORDS];
+    peek("before_metered_turn", "after_metered_turn", answer, sizeof seen);
+    memcpy(seen, answer, sizeof seen);
+    seen[KH_TURN_KIND] = kind_seen(answer[KH_TURN_KIND]);
+    seen[KH_TURN_STATUS] = status_seen(answer[KH_TURN_STATUS]);
+    if (wrong("refused_turn_counts"))
+        returned = KH_OK;
+    if (wrong("returned_of_8_bits"))
+        returned &= UINT8_MAX;
+    spoil_meter(__real_kh_meter_turn, meter, returned, answer, seen);
+}
+
+void __wrap_kh_meter_completion(kh_meter *meter, uint32_t returned, const uint64_t *answer) {
+    uint64_t seen[KH_DONE_WORDS];
+    peek("before_metered_done", "after_metered_done", answer, sizeof seen);
+    memcpy(seen, answer, sizeof seen);
+    seen[KH_DONE_STATUS] = status_seen(answer[KH_DONE_STATUS]);
+    if (wrong("refused_completion_counts"))
+        returned = KH_OK;
+    spoil_meter(__real_kh_meter_completion, meter, returned, answer, seen);
 }

@@ -13,7 +13,7 @@ ghost use Rattle.model.specs.declared.Completed.{Completed as Done};
 // Which word of the answer is which. The last is 0.
 const DONE_PORT: usize = 0;
 
-const DONE_STATUS: usize = 1;
+pub const DONE_STATUS: usize = 1;
 
 const DONE_NOTIFY: usize = 2;
 

@@ -1,6 +1,6 @@
 // A call's answer as the words and the number that C reads, a file to an answer.
-mod completed;
-mod turned;
+pub mod completed;
+pub mod turned;
 mod values;
 
 pub use completed::put_completed;

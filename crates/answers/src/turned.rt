@@ -15,7 +15,7 @@ ghost use Rattle.model.specs.Answers.{turnedNumber, turnedWords, extentsIn, tur
 ghost use Rattle.model.specs.declared.Turned.{Turned as Answer};
 
 // Which word of the answer is which.
-const KIND: usize = 0;
+pub const KIND: usize = 0;
 
 const PORT: usize = 1;
 
@@ -35,18 +35,18 @@ const EXTENT_COUNT: usize = 8;
 
 const REASON: usize = 9;
 
-const STATUS: usize = 10;
+pub const STATUS: usize = 10;
 
 const NOTIFY: usize = 11;
 
 // What a turn did, in the word KIND.
 const IDLE: u64 = 0;
 
-const STARTED: u64 = 1;
+pub const STARTED: u64 = 1;
 
-const ANSWERED: u64 = 2;
+pub const ANSWERED: u64 = 2;
 
-const OVERRUN: u64 = 3;
+pub const OVERRUN: u64 = 3;
 
 // Every word of a turn's answer but those of the extents, which the turn has written.
 fn put_values(

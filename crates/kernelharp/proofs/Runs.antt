@@ -32,7 +32,7 @@ use Rattle.kernelharp.proofs.Returns.{returned}
 -- ---- what is decoded is what is due
 
 -- a refusal's words are those lent, and those of a turn that was done are its answer's
-kept-numbered : (lent left : List ℕ) (r : Turned) → WordsKept lent left r → NumberedTurned r
+pub kept-numbered : (lent left : List ℕ) (r : Turned) → WordsKept lent left r → NumberedTurned r
 kept-numbered lent left (Turned.Refused n) k = λ z. omega (arith, k .1)
 kept-numbered lent left Turned.Idle k = tt
 kept-numbered lent left (Turned.Overrun p) k = tt
@@ -64,7 +64,7 @@ complete-effect e answer n pages words d h p w =
     λ i. record { rings = p i; answer = a i }
 
 -- so the step's own event is the one due
-effect-due : (m : List ℕ) (c : Made) (o : Outcome c) → Promise m c o → effectOf c o ≡ dueOn m (callOf c)
+pub effect-due : (m : List ℕ) (c : Made) (o : Outcome c) → Promise m c o → effectOf c o ≡ dueOn m (callOf c)
 unfolding effectDue
 effect-due m (khOpen p sheet) o r = ap replyOf (r .number) ∙ reply-decoded _ (open-numbered (viewOf (backendOf m)) (portId p) sheet)
 effect-due m (khClose p) o r = ap replyOf (r .number) ∙ reply-decoded _ (close-numbered (viewOf (backendOf m)) (portId p))
@@ -78,13 +78,13 @@ effect-due m (khComplete rings p t s x answer) o r =
     (r .returned .number) (r .ringsDue) (r .answerDue)
 
 -- what every function returned
-number-of : (c : Made) → Outcome c → ℕ
+pub number-of : (c : Made) → Outcome c → ℕ
 number-of (khOpen p sheet) o = o .number
 number-of (khClose p) o = o .number
 number-of (khTurn rings grants answer) o = o .number
 number-of (khComplete rings p t s x answer) o = o .number
 
-step-returned : (m : List ℕ) (c : Made) (o : Outcome c) → Promise m c o → Returned m (callOf c) (number-of c o) (memoryLeft c o)
+pub step-returned : (m : List ℕ) (c : Made) (o : Outcome c) → Promise m c o → Returned m (callOf c) (number-of c o) (memoryLeft c o)
 unfolding number-of
 step-returned m (khOpen p sheet) o r = r
 step-returned m (khClose p) o r = r
@@ -118,7 +118,7 @@ step-next m s r =
 -- ---- of every run
 
 module _ (m : List ℕ) (h : List Event) (s : Step) (y : BytesLent (s .made)) (r : Promise m (s .made) (s .left)) (w : Told (backendOf m) h) where
-  step-told : Told (backendOf (memoryLeft (s .made) (s .left))) (eventOf s ∷ h)
+  pub step-told : Told (backendOf (memoryLeft (s .made) (s .left))) (eventOf s ∷ h)
   step-told =
       promised-told m h (callOf (s .made)) (effectOf (s .made) (s .left)) (memoryLeft (s .made) (s .left)) y w (step-promised m (s .made) (s .left) r)
 
@@ -167,11 +167,11 @@ run-holds run r y =
 -- ---- every list of calls has a run
 
 -- one call, with all that its function leaves
-record Done (m : List ℕ) (c : Made) : Type 0 where
-  left : Outcome c
-  promise : Promise m c left
+pub record Done (m : List ℕ) (c : Made) : Type 0 where
+  pub left : Outcome c
+  pub promise : Promise m c left
 
-call-done : (m : List ℕ) (c : Made) → CallOutcome m (callOf c) → Done m c
+pub call-done : (m : List ℕ) (c : Made) → CallOutcome m (callOf c) → Done m c
 call-done m (khOpen p sheet) o =
     let c = callOf (khOpen p sheet) in
     record { left = record { number = refusal c (dueOn m c); memory = o .left }; promise = returned m c (dueOn m c) (o .left) _ (o .promised) refl }

@@ -1,3 +1,4 @@
 pub mod Promise
 pub mod Decode
 pub mod Run
+pub mod Meters

@@ -6,21 +6,24 @@ ghost use Rattle.memory.specs.Layout.{memoryWords};
 
 mod closing;
 mod completing;
+mod metering;
 mod opening;
 mod turning;
 
 pub use closing::kh_close;
 pub use completing::kh_complete;
+pub use metering::kh_meter_completion;
+pub use metering::kh_meter_turn;
 pub use opening::kh_open;
 pub use turning::kh_turn;
 
 // major * 10000 + minor * 100 + patch
-const VERSION: u32 = 300;
+const VERSION: u32 = 400;
 
 // Which version the archive is.
 #[no_mangle]
 pub extern "C" fn kh_version() -> u32
-    ensures { λ n. ⌜ n ≡ 300 ⌝ }
+    ensures { λ n. ⌜ n ≡ 400 ⌝ }
 {
     VERSION
 }

@@ -1,6 +1,7 @@
 // Answers, as text.
 use libc::STDOUT_FILENO;
 use model::Completed;
+use model::Counters;
 use model::Plan;
 use model::PortId;
 use model::Reply;
@@ -154,4 +155,12 @@ pub fn changed(shown: &mut [u8; RINGS_BYTES], rings: &[u8; RINGS_BYTES]) {
         }
         i += 1;
     }
+}
+
+// The four numbers.
+pub fn counters(c: Counters) {
+    word(c.taken);
+    word(c.okay);
+    word(c.error);
+    word(c.unsupported);
 }

@@ -12,6 +12,7 @@ pub mod Invariants
 pub mod Clean
 pub mod Refinement
 pub mod Demand3
+pub mod Counts
 pub mod Lines
 pub mod Sheets
 pub mod Refusals

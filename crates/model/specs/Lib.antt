@@ -14,4 +14,6 @@ pub mod Backend
 pub mod History
 pub mod Demand
 pub mod Answers
+pub mod Counters
+pub mod Counts
 pub mod Lines

@@ -155,3 +155,21 @@ pub enum Completed {
     Refused(u32),
     Done(PortId, Status, bool),
 }
+
+// A port's counters (meter): requests taken, and answers by their status (rule 15.1). The host's record, laid out as in C.
+#[repr(C)]
+pub struct Counters {
+    pub taken: u64,
+    pub okay: u64,
+    pub error: u64,
+    pub unsupported: u64,
+}
+
+// One of them, or none (rule 15.4).
+pub enum Counter {
+    Taken,
+    Okay,
+    Error,
+    NotSupported,
+    Nothing,
+}

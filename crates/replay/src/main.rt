@@ -10,12 +10,19 @@
 //   T RINGS GRANTS                turn, with buffers lent of these lengths, at most 32768 and 8192
 //   f PORT TAG SERIAL RESULT      complete; the result from -2147483647 to 2147483647
 //   F RINGS PORT TAG SERIAL RESULT    complete, with a buffer lent of this length, at most 32768
+//   m PORT                        the port's counters
+//   z PORT                        the port's counters zeroed
+// In b, g, m and z the port is taken modulo 8.
 //
 // The output of a call is its name, then `refused NUMBER` or its answer: `done`, `idle`, `overrun`, `started` with the plan and, behind a bar each, the
 // extents' frame, first sector, length and disk sector; `answered` with reason and status; `notify` where the guest is to be notified. Then each ring
-// byte that the call changed, as PLACE:BYTE, its place in the 32,768.
+// byte that the call changed, as PLACE:BYTE, its place in the 32,768. Each answer is handed over to the counters of the port that it names; they are written
+// as `meter` with the numbers taken, okay, error and not supported.
 //
 // Only safety is proved here: that each answer is right is proved in `turn` and `backend`.
+mod meters;
+
+use crate::meters::METERS;
 use libc::STDIN_FILENO;
 use lines::input;
 use lines::input::NUMBERS;
@@ -93,17 +100,32 @@ fn close(memory: &mut [u64; WORDS], c: &[u64; NUMBERS]) {
 
 // A turn that is lent the first r bytes of the rings and the first g of the grants. The words are filled with ones first, so that a word that is not
 // cleared would show.
-fn take_turn(memory: &mut [u64; WORDS], rings: &mut [u8], grants: &[u8], r: u64, g: u64) {
+fn take_turn(
+    memory: &mut [u64; WORDS],
+    rings: &mut [u8],
+    grants: &[u8],
+    meters: &mut [u64; METERS],
+    r: u64,
+    g: u64,
+) {
     output::text(b"turn");
     let mut answer = [1u64; TURN_WORDS];
     let lent = input::within(r, rings);
     let granted = input::within(g, grants);
     let turned = turn::turn(memory, &mut rings[..lent], &grants[..granted], &mut answer);
     output::turned(turned, &answer);
+    meters::after_turn(meters, turned);
 }
 
 // A completion that is lent the first r bytes of the rings.
-fn complete(memory: &mut [u64; WORDS], rings: &mut [u8], r: u64, names: [u64; 3], result: i32) {
+fn complete(
+    memory: &mut [u64; WORDS],
+    rings: &mut [u8],
+    meters: &mut [u64; METERS],
+    r: u64,
+    names: [u64; 3],
+    result: i32,
+) {
     output::text(b"complete");
     let lent = input::within(r, rings);
     let answer = backend::complete(
@@ -115,13 +137,15 @@ fn complete(memory: &mut [u64; WORDS], rings: &mut [u8], r: u64, names: [u64; 3]
         result,
     );
     output::completed(answer);
+    meters::after_completion(meters, answer);
 }
 
-// One of the four calls.
+// One of the four calls, or a look at counters.
 fn call(
     memory: &mut [u64; WORDS],
     rings: &mut [u8; RINGS_BYTES],
     grants: &[u8; GRANTS_BYTES],
+    meters: &mut [u64; METERS],
     letter: u8,
     c: &[u64; NUMBERS],
     negative: bool,
@@ -131,17 +155,18 @@ fn call(
         return;
     }
     if letter == b't' {
-        take_turn(memory, rings, grants, LENT_RINGS, LENT_GRANTS);
+        take_turn(memory, rings, grants, meters, LENT_RINGS, LENT_GRANTS);
         return;
     }
     if letter == b'T' {
-        take_turn(memory, rings, grants, c[0], c[1]);
+        take_turn(memory, rings, grants, meters, c[0], c[1]);
         return;
     }
     if letter == b'f' {
         complete(
             memory,
             rings,
+            meters,
             LENT_RINGS,
             [c[0], c[1], c[2]],
             input::signed(c[3], negative),
@@ -152,10 +177,15 @@ fn call(
         complete(
             memory,
             rings,
+            meters,
             c[0],
             [c[1], c[2], c[3]],
             input::signed(c[4], negative),
         );
+        return;
+    }
+    if letter == b'm' {
+        meters::show(meters, c[0]);
     }
 }
 
@@ -165,6 +195,7 @@ fn run_line(
     rings: &mut [u8; RINGS_BYTES],
     shown: &mut [u8; RINGS_BYTES],
     grants: &mut [u8; GRANTS_BYTES],
+    meters: &mut [u64; METERS],
     line: &[u8],
     letter: u8,
 ) {
@@ -179,6 +210,10 @@ fn run_line(
         grant(grants, &c);
         return;
     }
+    if letter == b'z' {
+        meters::zero(meters, c[0]);
+        return;
+    }
     if letter == b'o' {
         open(memory, &c, &bytes[..n]);
     } else {
@@ -186,6 +221,7 @@ fn run_line(
             memory,
             rings,
             grants,
+            meters,
             letter,
             &c,
             input::find(line, 0, b'-') < line.len(),
@@ -201,6 +237,7 @@ fn read_line(
     rings: &mut [u8; RINGS_BYTES],
     shown: &mut [u8; RINGS_BYTES],
     grants: &mut [u8; GRANTS_BYTES],
+    meters: &mut [u64; METERS],
     line: &[u8],
 ) {
     if line.len() == 0 {
@@ -212,7 +249,7 @@ fn read_line(
         output::text(b"\n");
         return;
     }
-    run_line(memory, rings, shown, grants, line, letter);
+    run_line(memory, rings, shown, grants, meters, line, letter);
 }
 
 // Every line of the input, from the empty backend.
@@ -221,6 +258,7 @@ fn run(text: &[u8]) {
     let mut rings = [0u8; RINGS_BYTES];
     let mut shown = [0u8; RINGS_BYTES];
     let mut grants = [0u8; GRANTS_BYTES];
+    let mut meters = [0u64; METERS];
     let mut at = 0;
     while at < text.len() {
         let end = input::find(text, at, b'\n');
@@ -229,6 +267,7 @@ fn run(text: &[u8]) {
             &mut rings,
             &mut shown,
             &mut grants,
+            &mut meters,
             &text[at..end],
         );
         at = end + 1;

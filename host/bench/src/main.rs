@@ -2,7 +2,8 @@
 //!
 //! - `bench times`: nanoseconds a request of both programs, over many runs of `bench sample LOAD`.
 //! - `bench memory`: what the host lends, and the stack of a call.
-//! - `bench rounds archive|second LOAD ROUNDS`: rounds of one program, to count its instructions.
+//! - `bench rounds archive|metered|second LOAD ROUNDS`: rounds of one program, to count its
+//!   instructions; `metered` is the archive with a meter to each port.
 //!
 //! LOAD is SEGMENTS PORTS LAYOUT, where the layout of the guests is `64-bit`, `32-bit`, or `both` by
 //! turns. `tests/bench` runs all of it.
@@ -14,7 +15,7 @@ mod stack;
 mod times;
 
 use load::{Layout, Load};
-use programs::{Archive, Bench, Program, Second};
+use programs::{Archive, Bench, Metered, Program, Second};
 
 fn main() {
     let arguments: Vec<String> = std::env::args().skip(1).collect();
@@ -27,12 +28,13 @@ fn main() {
             let (load, rounds) = (load(segments, ports, layout), number(rounds));
             match program {
                 "archive" => run(Bench::new(Archive::new(), load), rounds),
+                "metered" => run(Bench::new(Metered::new(), load), rounds),
                 "second" => run(Bench::new(Second::new(), load), rounds),
-                other => panic!("{other} is neither archive nor second"),
+                other => panic!("{other} is neither archive, metered nor second"),
             }
         }
         _ => panic!(
-            "times, sample LOAD, memory, or rounds archive|second LOAD ROUNDS; LOAD is SEGMENTS PORTS LAYOUT"
+            "times, sample LOAD, memory, or rounds archive|metered|second LOAD ROUNDS; LOAD is SEGMENTS PORTS LAYOUT"
         ),
     }
 }

@@ -2,8 +2,9 @@
 
 use crate::load::{Lent, Load};
 use generate::{for_second, Core};
+use kernelharp::layout::PORTS;
 use kernelharp::words::{done, kind, turn, DoneWords, TurnWords, DONE_WORDS, TURN_WORDS};
-use kernelharp::{Completion, Memory};
+use kernelharp::{Completion, Memory, Meter};
 use second::{Backend, Plan, Status, Turned};
 
 /// What a call gives that was done.
@@ -65,6 +66,39 @@ impl Program for Archive {
         let came = (code, self.done[done::STATUS]);
         assert_eq!(came, (DONE, OKAY), "a whole read is okay");
         self.done[done::NOTIFY] == 1
+    }
+}
+
+/// The archive's calls with a meter to each port, raised by every answer.
+pub struct Metered {
+    archive: Archive,
+    meters: [Meter; PORTS],
+}
+
+impl Metered {
+    pub fn new() -> Metered {
+        Metered {
+            archive: Archive::new(),
+            meters: [Meter::default(); PORTS],
+        }
+    }
+}
+
+impl Program for Metered {
+    fn open(&mut self, port: u32, sheet: &[u8]) -> bool {
+        self.archive.open(port, sheet)
+    }
+
+    fn turn(&mut self, lent: &mut Lent) -> Completion {
+        let named = self.archive.turn(lent);
+        self.meters[named.port as usize].turn(DONE, &self.archive.turn);
+        named
+    }
+
+    fn complete(&mut self, lent: &mut Lent, named: Completion) -> bool {
+        let notify = self.archive.complete(lent, named);
+        self.meters[named.port as usize].completion(DONE, &self.archive.done);
+        notify
     }
 }
 

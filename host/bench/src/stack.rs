@@ -2,7 +2,7 @@
 
 use generate::{run, Core};
 use kernelharp::words::{DoneWords, TurnWords, DONE_WORDS, TURN_WORDS};
-use kernelharp::{Completion, Memory, MEMORY_WORDS};
+use kernelharp::{Completion, Memory, Meter, MEMORY_WORDS};
 use second::Backend;
 use std::arch::asm;
 
@@ -117,6 +117,14 @@ impl Core for Painted {
         let arguments = [rings, rings_bytes, port, tag, serial, result, answer];
         // SAFETY: kh_complete's arguments, as in `turn`.
         unsafe { self.call(3, arguments) }
+    }
+
+    fn meter_turn(&self, meter: &mut Meter, returned: u32, answer: &TurnWords) {
+        meter.turn(returned, answer);
+    }
+
+    fn meter_completion(&self, meter: &mut Meter, returned: u32, answer: &DoneWords) {
+        meter.completion(returned, answer);
     }
 
     fn memory(&self) -> &[u64] {

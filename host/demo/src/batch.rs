@@ -15,9 +15,9 @@ pub const BARRIER: u8 = Operation::Barrier as u8;
 pub const FLUSH: u8 = Operation::Flush as u8;
 pub const DISCARD: u8 = Operation::Discard as u8;
 
-const OKAY: i16 = Status::Okay as i16;
-const ERROR: i16 = Status::Error as i16;
-const NOT_SUPPORTED: i16 = Status::NotSupported as i16;
+const OKAY: Status = Status::Okay;
+const ERROR: Status = Status::Error;
+const NOT_SUPPORTED: Status = Status::NotSupported;
 
 /// What a frame holds before the host reads from the disk into it.
 const FILLER: [u8; SECTOR] = [0xA5; SECTOR];
@@ -27,7 +27,7 @@ pub const MOST_SECTORS: u64 = (EXTENTS * FRAME_SECTORS) as u64;
 /// A request and what is due for it.
 pub struct Job {
     pub request: Request,
-    pub status: i16,
+    pub status: Status,
     /// Of a read: where the disk's sectors are due, and which.
     read: Option<ReadBack>,
 }
@@ -246,7 +246,7 @@ impl Batch<'_> {
     }
 
     /// What a guest that knows its disk expects of a sound request.
-    fn status_due(&self, operation: u8, secure: bool) -> i16 {
+    fn status_due(&self, operation: u8, secure: bool) -> Status {
         let sheet = &self.profile.sheet;
         let supported = match operation {
             BARRIER => sheet.barrier,
@@ -261,7 +261,7 @@ impl Batch<'_> {
         }
     }
 
-    fn push_read(&mut self, request: Request, status: i16, read: ReadBack) {
+    fn push_read(&mut self, request: Request, status: Status, read: ReadBack) {
         for segment in &read.segments {
             for place in 0..FRAME_SECTORS {
                 self.frames.write(segment.frame, place, &FILLER);
@@ -270,7 +270,7 @@ impl Batch<'_> {
         self.push(request, status, Some(read));
     }
 
-    fn push(&mut self, request: Request, status: i16, read: Option<ReadBack>) {
+    fn push(&mut self, request: Request, status: Status, read: Option<ReadBack>) {
         self.jobs.push(Job {
             request,
             status,

@@ -107,6 +107,7 @@ impl<'a> Guest<'a> {
         let mut lot = 0;
         for (number, job) in jobs.iter().enumerate() {
             self.frontend.put(&job.request);
+            self.checks.own.count_taken();
             if lot == 0 {
                 lot = 1 + self.random.index(jobs.len() - number);
             }
@@ -142,14 +143,14 @@ impl<'a> Guest<'a> {
         let due = Response {
             id: response.id,
             operation: job.request.operation,
-            status: job.status,
+            status: job.status as i16,
             padding_is_zero: true,
         };
         if *response != due {
             return Err(format!("{response:?} in place of {due:?}"));
         }
         self.checks.bytes += job.check(&self.link.frames, &self.model)?;
-        self.checks.responses += 1;
+        self.checks.own.count_answer(job.status);
         Ok(())
     }
 }

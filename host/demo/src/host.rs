@@ -14,6 +14,8 @@ use kernelharp::{Abi, Name, Operation, Plan, Port, Refusal, Sheet, Turn};
 const BURST: usize = 64;
 /// Of a hundred completions, how many are asked for once more, or an old one is.
 const DOUBLED: u64 = 10;
+/// Turns of a billing period.
+const PERIOD: u64 = 500;
 
 /// The host of eight guests.
 pub struct Host<'a> {
@@ -62,10 +64,12 @@ impl<'a> Host<'a> {
             }
             let mut states = self.links.iter().map(Link::state);
             if states.all(|state| state == State::Finished) {
+                self.bill(Port::all());
                 return Ok(());
             }
             let idle = self.take_turns()?;
             self.carry_out_some()?;
+            self.end_period_if_due();
             progress.show(self.links, &self.counts);
             // The backend's idle is that of a second look, so it is safe to sleep now.
             if idle && self.held.iter().all(Vec::is_empty) {
@@ -131,16 +135,16 @@ impl<'a> Host<'a> {
                 }
                 Turn::Started(plan) => {
                     let port = plan.name.port.index();
-                    self.counts.ports[port].started += 1;
+                    self.counts.ports[port].own.count_taken();
                     self.held[port].push(plan);
                 }
                 Turn::Answered {
                     port,
                     reason,
+                    status,
                     notify,
-                    ..
                 } => {
-                    self.counts.ports[port.index()].count_refused(reason);
+                    self.counts.ports[port.index()].count_refused(reason, status);
                     self.notify_if(notify, port);
                 }
                 Turn::Overrun(port) => {
@@ -175,7 +179,7 @@ impl<'a> Host<'a> {
         let result = self.disks[port.index()].carry_out(&plan, &self.links[port.index()].frames);
         let done = self.backend.complete(plan.name, result);
         let done = done.map_err(|refusal| format!("completion of {plan}: {refusal}"))?;
-        self.counts.ports[port.index()].count_completed(&plan, result);
+        self.counts.ports[port.index()].count_completed(&plan, result, done);
         self.notify_if(done.notify, port);
         if self.random.chance(DOUBLED) {
             self.complete_again(plan.name)?;
@@ -195,6 +199,23 @@ impl<'a> Host<'a> {
             self.counts.ports[port].completions_refused += 1;
         }
         Ok(())
+    }
+
+    /// Half of the ports are billed at the end of each period, with requests in flight and all, the
+    /// others at the end of the run alone, over all their openings.
+    fn end_period_if_due(&mut self) {
+        if self.counts.turns >= PERIOD * (self.counts.periods + 1) {
+            self.counts.periods += 1;
+            self.bill(Port::all().step_by(2));
+        }
+    }
+
+    /// Takes the ports' meters.
+    fn bill(&mut self, ports: impl Iterator<Item = Port>) {
+        for port in ports {
+            let meter = self.backend.take_meter(port);
+            self.counts.ports[port.index()].metered.add(&meter);
+        }
     }
 
     fn notify_if(&self, notify: bool, port: Port) {

@@ -14,6 +14,7 @@ mod pattern;
 mod profile;
 mod report;
 mod run;
+mod tally;
 
 use std::path::PathBuf;
 use std::process::ExitCode;
@@ -34,7 +35,7 @@ fn main() -> ExitCode {
     println!("roll their day at different hours, beside saved scores that must stay untouched;");
     println!("two guests have 32-bit rings; one is hostile and comes back each time with a ring");
     println!("of the other layout. Every id is to be answered once, every byte to be read back");
-    println!("as it was written.");
+    println!("as it was written, and every meter to count what its guest saw.");
     match demo(seed, rounds) {
         Ok(()) => ExitCode::SUCCESS,
         Err(fault) => {

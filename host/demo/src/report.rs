@@ -3,8 +3,9 @@
 use crate::link::Link;
 use crate::pattern::SECTOR;
 use crate::profile::Profile;
+use crate::tally::Tally;
 use kernelharp::layout::PORTS;
-use kernelharp::{Plan, Reason};
+use kernelharp::{Done, Meter, Plan, Reason, Status};
 use std::io::{self, IsTerminal, Write};
 use std::sync::atomic::Ordering;
 use std::time::{Duration, Instant};
@@ -17,8 +18,8 @@ const REASONS: usize = Reason::Unaligned as usize - FIRST_REASON + 1;
 /// What a guest checked.
 #[derive(Clone, Copy, Debug, Default)]
 pub struct Checks {
-    /// Responses held against their requests, each once.
-    pub responses: u64,
+    /// Requests put on the ring, and responses held against them, each once.
+    pub own: Tally,
     /// Bytes of frames held against the model of the disk.
     pub bytes: u64,
     pub days_rolled: u64,
@@ -26,7 +27,7 @@ pub struct Checks {
 
 impl Checks {
     fn add(&mut self, other: &Checks) {
-        self.responses += other.responses;
+        self.own.add(&other.own.0);
         self.bytes += other.bytes;
         self.days_rolled += other.days_rolled;
     }
@@ -35,7 +36,10 @@ impl Checks {
 /// What the host counts of a port.
 #[derive(Clone, Copy, Debug, Default)]
 pub struct PortCounts {
-    pub started: u64,
+    /// What its meter said, the sum of all periods.
+    pub metered: Tally,
+    /// What its meter ought to say.
+    pub own: Tally,
     pub completed: u64,
     /// By reason, from 21.
     pub refused: [u64; REASONS],
@@ -46,28 +50,23 @@ pub struct PortCounts {
 }
 
 impl PortCounts {
-    pub fn count_refused(&mut self, reason: Reason) {
+    pub fn count_refused(&mut self, reason: Reason, status: Status) {
         self.refused[reason as usize - FIRST_REASON] += 1;
+        self.own.count_taken();
+        self.own.count_answer(status);
     }
 
-    pub fn count_completed(&mut self, plan: &Plan, result: i32) {
+    pub fn count_completed(&mut self, plan: &Plan, result: i32, done: Done) {
         self.completed += 1;
+        self.own.count_answer(done.status);
         if result == plan.expected_result() && !plan.extents().is_empty() {
             self.sectors += plan.count;
         }
     }
 
-    fn all_refused(&self) -> u64 {
-        self.refused.iter().sum()
-    }
-
-    /// Responses given: one for each request refused or completed.
-    fn responses(&self) -> u64 {
-        self.completed + self.all_refused()
-    }
-
     fn add(&mut self, other: &PortCounts) {
-        self.started += other.started;
+        self.metered.add(&other.metered.0);
+        self.own.add(&other.own.0);
         self.completed += other.completed;
         for (sum, part) in self.refused.iter_mut().zip(other.refused) {
             *sum += part;
@@ -84,6 +83,8 @@ pub struct Counts {
     pub turns: u64,
     pub idle: u64,
     pub sleeps: u64,
+    /// Billing periods that ended while the guests ran.
+    pub periods: u64,
     pub ports: [PortCounts; PORTS],
 }
 
@@ -133,7 +134,7 @@ impl Progress {
         let total = counts.total();
         print!(
             "{from}{hundredths:>3} %  {} responses, {:.0} MiB moved, {} overruns {to}",
-            total.responses(),
+            total.own.answers(),
             mebibytes(total.sectors),
             total.overruns
         );
@@ -149,18 +150,19 @@ impl Progress {
     }
 }
 
-/// The table.
+/// The table. What was taken and answered is what the meters said.
 pub fn print_table(profiles: &[Profile], counts: &Counts, checks: &[Checks]) {
     println!();
     println!(
-        "{:<5}{:<21}{:>7}{:>8}{:>9}{:>9}{:>11}{:>11}{:>10}{:>13}{:>13}",
+        "{:<5}{:<21}{:>7}{:>8}{:>9}{:>9}{:>8}{:>15}{:>11}{:>10}{:>13}{:>13}",
         "port",
         "guest",
         "disk",
         "layout",
-        "started",
-        "refused",
-        "responses",
+        "taken",
+        "okay",
+        "error",
+        "not supported",
         "MiB moved",
         "overruns",
         "ids checked",
@@ -180,14 +182,17 @@ pub fn print_table(profiles: &[Profile], counts: &Counts, checks: &[Checks]) {
 }
 
 fn print_row(head: &str, counts: &PortCounts, checks: &Checks) {
+    let Meter {
+        taken,
+        okay,
+        error,
+        not_supported,
+    } = counts.metered.0;
     println!(
-        "{head}{:>9}{:>9}{:>11}{:>11.1}{:>10}{:>13}{:>13.1}",
-        counts.started,
-        counts.all_refused(),
-        counts.responses(),
+        "{head}{taken:>9}{okay:>9}{error:>8}{not_supported:>15}{:>11.1}{:>10}{:>13}{:>13.1}",
         mebibytes(counts.sectors),
         counts.overruns,
-        checks.responses,
+        checks.own.answers(),
         checks.bytes as f64 / MEBIBYTE
     );
 }

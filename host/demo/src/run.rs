@@ -8,6 +8,7 @@ use crate::link::Link;
 use crate::pattern::Model;
 use crate::profile::{profiles, Profile, Role};
 use crate::report::{print_table, Checks, Counts, Progress};
+use crate::tally::Tally;
 use frontend::EventChannel;
 use generate::Random;
 use kernelharp::layout::PORTS;
@@ -27,6 +28,11 @@ pub fn demo(folder: &Path, seed: u64, rounds: u64) -> Result<(), String> {
     let (counts, ends) = play(&profiles, &mut disks, models, seed, rounds)?;
     let checks: Vec<Checks> = ends.iter().map(|end| end.0).collect();
     print_table(&profiles, &counts, &checks);
+    check_meters(&counts, &ends)?;
+    println!(
+        "meters: as the host and the guests counted, half of them zeroed at each of {} period ends",
+        counts.periods
+    );
     let bytes = verify(&disks, &ends)?;
     println!("images: {bytes} bytes as the guests left them, none behind a disk's end touched");
     let seconds = begin.elapsed().as_secs_f64();
@@ -90,6 +96,24 @@ fn disks(folder: &Path, profiles: &[Profile], models: &[Model]) -> Result<Vec<Di
     Ok(disks)
 }
 
+/// Holds what the meters said against the host's own count, and the guest's where it has one.
+fn check_meters(counts: &Counts, ends: &[End]) -> Result<(), String> {
+    for (port, (counts, (checks, model))) in counts.ports.iter().zip(ends).enumerate() {
+        check_meter(port, counts.metered, "host", counts.own)?;
+        if model.is_some() {
+            check_meter(port, counts.metered, "guest", checks.own)?;
+        }
+    }
+    Ok(())
+}
+
+fn check_meter(port: usize, metered: Tally, whose: &str, own: Tally) -> Result<(), String> {
+    if metered == own {
+        return Ok(());
+    }
+    Err(format!("meter {port}: {metered}; by its {whose}: {own}"))
+}
+
 /// Holds every image against its guest's model. Gives how many bytes were checked.
 fn verify(disks: &[Disk], ends: &[End]) -> Result<u64, String> {
     let mut bytes = 0;
@@ -114,6 +138,33 @@ mod tests {
         let played = play(&profiles, &mut disks, models(1, &profiles), 1, 3);
         let fault = played.expect_err("the images are others");
         assert!(fault.starts_with("read-only: sector"), "{fault}");
+    }
+
+    #[test]
+    fn a_meter_is_found_that_says_something_else() {
+        let numbers: [fn(&mut Tally) -> &mut u64; 4] = [
+            |tally| &mut tally.0.taken,
+            |tally| &mut tally.0.okay,
+            |tally| &mut tally.0.error,
+            |tally| &mut tally.0.not_supported,
+        ];
+        for number in numbers {
+            let models = models(1, &profiles()).into_iter();
+            let mut ends: Vec<End> = models.map(|it| (Checks::default(), Some(it))).collect();
+            let mut counts = Counts::default();
+            check_meters(&counts, &ends).unwrap();
+            *number(&mut counts.ports[5].metered) += 1;
+            let fault = check_meters(&counts, &ends).unwrap_err();
+            assert!(fault.starts_with("meter 5: ") && fault.contains("; by its host: "));
+            *number(&mut counts.ports[5].own) += 1;
+            let fault = check_meters(&counts, &ends).unwrap_err();
+            assert!(fault.starts_with("meter 5: ") && fault.contains("; by its guest: "));
+            *number(&mut ends[5].0.own) += 1;
+            check_meters(&counts, &ends).unwrap();
+            // A hostile guest counts nothing.
+            ends[5] = (Checks::default(), None);
+            check_meters(&counts, &ends).unwrap();
+        }
     }
 
     /// The host's medium has a bad sector that the guest does not know of.

@@ -5,7 +5,7 @@ use std::path::PathBuf;
 use std::process::{Command, Output};
 
 /// The columns of a row behind the guest's name, disk and layout.
-const FIGURES: usize = 7;
+const FIGURES: usize = 8;
 
 /// Runs the demo with a temporary folder of its own, which must be empty again afterwards.
 fn demo(name: &str, arguments: &[&str]) -> Output {
@@ -33,7 +33,8 @@ fn line<'a>(text: &'a str, begin: &str) -> &'a str {
     found.unwrap_or_else(|| panic!("no line {begin:?} in\n{text}"))
 }
 
-/// The figures of a row: started, refused, responses, MiB moved, overruns, ids checked, MiB checked.
+/// The figures of a row: taken, okay, error, not supported, MiB moved, overruns, ids checked, MiB
+/// checked.
 fn figures(text: &str, begin: &str) -> Vec<f64> {
     let words: Vec<&str> = line(text, begin).split_whitespace().collect();
     let figures = &words[words.len() - FIGURES..];
@@ -51,18 +52,17 @@ fn the_demo_runs_small() {
     let text = table("small", &["5", "30"]);
     for port in 0..7 {
         let row = figures(&text, &format!("{port}    "));
-        let [started, refused, responses, moved, overruns, ids, checked] = row[..] else {
+        let [taken, okay, error, not_supported, moved, overruns, ids, checked] = row[..] else {
             panic!("{row:?}");
         };
-        assert!(started > 0.0 && refused > 0.0 && moved > 0.0 && checked > 0.0);
-        assert_eq!((started + refused, responses), (responses, ids));
+        assert!(okay > 0.0 && error > 0.0 && not_supported > 0.0 && moved > 0.0 && checked > 0.0);
+        assert_eq!((okay + error + not_supported, ids), (taken, taken));
         assert_eq!(overruns, 0.0);
     }
-    assert_eq!(
-        figures(&text, "7    ")[4],
-        6.0,
-        "overruns of the hostile guest"
-    );
+    let hostile = figures(&text, "7    ");
+    assert!(hostile[0] > 0.0, "requests of the hostile guest");
+    assert_eq!(hostile[1] + hostile[2] + hostile[3], hostile[0]);
+    assert_eq!(hostile[5], 6.0, "overruns of the hostile guest");
     let layouts: [&str; 8] = std::array::from_fn(|port| layout(&text, port));
     let due = "64-bit 32-bit 64-bit 32-bit 64-bit 64-bit 64-bit both";
     assert_eq!(layouts.join(" "), due);
@@ -74,6 +74,8 @@ fn the_demo_runs_small() {
     }
     assert_eq!(reasons.len(), 18);
     line(&text, "days rolled by the boards: 2,");
+    let zeroed = line(&text, "meters: as the host and the guests counted, ");
+    assert!(!zeroed.contains(" 0 period ends"), "{zeroed}");
     line(&text, "images: ");
     line(&text, "Every check held, in ");
 }

@@ -2,6 +2,7 @@
 
 mod classes;
 mod completions;
+mod meters;
 mod sheets;
 mod turns;
 
@@ -16,10 +17,15 @@ use second::{read_sheet, Disk, Refusal};
 use std::collections::{BTreeMap, HashSet};
 use std::fmt;
 
+/// Counts by class.
+type Counts = BTreeMap<String, u64>;
+
 /// How often each class of calls and answers occurred.
 #[derive(Debug, Default)]
 pub struct Census {
-    counts: BTreeMap<String, u64>,
+    counts: Counts,
+    /// Those that ports of either layout should show, by layout.
+    port_counts: [Counts; Abi::ALL.len()],
     books: [PortBooks; PORTS],
     /// The layout of the port that the last turn served.
     last_served: Option<Abi>,
@@ -42,31 +48,33 @@ impl Census {
         Census::default()
     }
 
-    /// How often a class occurred.
-    pub fn count(&self, class: &str) -> u64 {
-        self.counts.get(class).copied().unwrap_or(0)
+    /// How often each class occurred.
+    pub fn counts(&self) -> BTreeMap<String, u64> {
+        let mut all = self.counts.clone();
+        for (abi, counts) in Abi::ALL.into_iter().zip(&self.port_counts) {
+            let named = counts.iter();
+            all.extend(named.map(|(class, count)| (class_of(abi, class), *count)));
+        }
+        all
     }
 
     /// The classes that should occur in a long run and did not.
     pub fn missing(&self) -> Vec<String> {
-        let mut classes = expected_classes();
-        classes.retain(|class| self.count(class) == 0);
+        let (mut classes, counts) = (expected_classes(), self.counts());
+        classes.retain(|class| !counts.contains_key(class));
         classes
     }
 
     /// Adds another run's counts.
     pub fn add(&mut self, other: &Census) {
-        for (class, count) in &other.counts {
-            *self.counts.entry(class.clone()).or_insert(0) += count;
+        add(&mut self.counts, &other.counts);
+        for (counts, others) in self.port_counts.iter_mut().zip(&other.port_counts) {
+            add(counts, others);
         }
     }
 
     fn tick(&mut self, class: &str) {
-        if let Some(count) = self.counts.get_mut(class) {
-            *count += 1;
-        } else {
-            self.counts.insert(class.to_string(), 1);
-        }
+        tick(&mut self.counts, class);
     }
 
     fn tick_if(&mut self, occurred: bool, class: &str) {
@@ -77,7 +85,7 @@ impl Census {
 
     /// Counts a class that either layout should show.
     fn tick_of(&mut self, abi: Abi, class: &str) {
-        self.tick(&class_of(abi, class));
+        tick(&mut self.port_counts[abi as usize], class);
     }
 
     fn tick_of_if(&mut self, abi: Abi, occurred: bool, class: &str) {
@@ -86,7 +94,7 @@ impl Census {
         }
     }
 
-    /// Counts a call, with the history as it stood before it. A call refused or done against the
+    /// Counts an entry, with the history as it stood before it. A call refused or done against the
     /// rule is for the checker to report, not for the census to stumble over.
     pub fn note(&mut self, history: &History, event: &Event) {
         if event.code() != history.refusal_due(event) {
@@ -124,6 +132,7 @@ impl Census {
                     self.note_refused_completion(history, lent, port, (tag, serial), code);
                 }
             }
+            Event::Zeroed { port } => self.note_zeroing(history, port),
         }
     }
 
@@ -217,10 +226,24 @@ impl Census {
 
 impl fmt::Display for Census {
     fn fmt(&self, f: &mut fmt::Formatter) -> fmt::Result {
-        for (class, count) in &self.counts {
+        for (class, count) in self.counts() {
             writeln!(f, "{count:>9}  {class}")?;
         }
         Ok(())
+    }
+}
+
+fn tick(counts: &mut Counts, class: &str) {
+    if let Some(count) = counts.get_mut(class) {
+        *count += 1;
+    } else {
+        counts.insert(class.to_string(), 1);
+    }
+}
+
+fn add(counts: &mut Counts, others: &Counts) {
+    for (class, count) in others {
+        *counts.entry(class.clone()).or_insert(0) += count;
     }
 }
 

@@ -2,7 +2,8 @@
 //!
 //! A [`Step`] is what guests (and the host, in the grants) write, and then one call. The
 //! [`Generator`] makes steps; it looks at the answers of the first program, as a real host does.
-//! The other programs get the very same steps, and [`run`] stops at the first difference.
+//! The other programs get the very same steps, and [`run`] stops at the first difference. Beside the
+//! calls, the host hands each answer over to a record of counters, and zeroes records.
 //!
 //! To compare another program, implement [`Core`] for it and run it beside the second program:
 //!
@@ -16,6 +17,7 @@
 
 mod census;
 mod generator;
+mod meters;
 mod programs;
 mod random;
 mod requests;
@@ -25,6 +27,7 @@ mod world;
 
 pub use census::Census;
 pub use generator::Generator;
+pub use meters::{meter_of, numbers};
 pub use programs::{done_words, for_second, turn_words, Core};
 pub use random::Random;
 pub use run::{run, Failure, Report};

@@ -1,12 +1,13 @@
-//! What is compared: programs with the four calls as the C interface has them.
+//! What is compared: programs with the four calls and the counters as the C interface has them.
 
 use kernelharp::words::{done, extent, kind, turn};
 use kernelharp::words::{DoneWords, TurnWords, DONE_WORDS, TURN_WORDS};
-use kernelharp::{Completion, Memory};
+use kernelharp::{Completion, Memory, Meter};
 use second::{Backend, Done, Plan, Refusal, Turned};
 
 /// The four calls over slices of any length. Each gives 0 when it was done, else the refusal's
-/// number; then nothing that was lent has changed, `answer` included.
+/// number; then nothing that was lent has changed, `answer` included. And what raises a record of
+/// counters, which is no part of the program.
 pub trait Core {
     /// `kh_open`
     fn open(&mut self, port: u32, sheet: &[u8]) -> u32;
@@ -16,6 +17,10 @@ pub trait Core {
     fn turn(&mut self, rings: &mut [u8], grants: &[u8], answer: &mut TurnWords) -> u32;
     /// `kh_complete`
     fn complete(&mut self, rings: &mut [u8], named: Completion, answer: &mut DoneWords) -> u32;
+    /// `kh_meter_turn`
+    fn meter_turn(&self, meter: &mut Meter, returned: u32, answer: &TurnWords);
+    /// `kh_meter_completion`
+    fn meter_completion(&self, meter: &mut Meter, returned: u32, answer: &DoneWords);
 
     /// The words that a refused call must leave as they are; none where a program has no such words.
     fn memory(&self) -> &[u64] {
@@ -39,6 +44,14 @@ impl Core for Memory {
 
     fn complete(&mut self, rings: &mut [u8], named: Completion, answer: &mut DoneWords) -> u32 {
         Memory::complete(self, rings, named, answer)
+    }
+
+    fn meter_turn(&self, meter: &mut Meter, returned: u32, answer: &TurnWords) {
+        meter.turn(returned, answer);
+    }
+
+    fn meter_completion(&self, meter: &mut Meter, returned: u32, answer: &DoneWords) {
+        meter.completion(returned, answer);
     }
 
     fn memory(&self) -> &[u64] {
@@ -67,6 +80,31 @@ impl Core for Backend {
             *answer = done_words(&done);
         })
     }
+
+    fn meter_turn(&self, meter: &mut Meter, returned: u32, answer: &TurnWords) {
+        lend(meter, |own| own.turn_words(returned, answer));
+    }
+
+    fn meter_completion(&self, meter: &mut Meter, returned: u32, answer: &DoneWords) {
+        lend(meter, |own| own.completion_words(returned, answer));
+    }
+}
+
+/// Lends a record to the second program as one of its own.
+fn lend(meter: &mut Meter, raise: impl FnOnce(&mut second::Meter)) {
+    let mut own = second::Meter {
+        taken: meter.taken,
+        okay: meter.okay,
+        error: meter.error,
+        not_supported: meter.not_supported,
+    };
+    raise(&mut own);
+    *meter = Meter {
+        taken: own.taken,
+        okay: own.okay,
+        error: own.error,
+        not_supported: own.not_supported,
+    };
 }
 
 /// Hands an answer on, or gives the refusal's number.

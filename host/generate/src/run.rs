@@ -1,7 +1,8 @@
 //! Running one list through several programs, and comparing them.
 
+use crate::meters::{Billing, Records};
 use crate::{Call, Census, Core, Generator, Outcome, Step, World, UNTOUCHED};
-use history::History;
+use history::{Event, History};
 use second::Refusal;
 use std::fmt;
 
@@ -35,10 +36,11 @@ pub struct Report {
     pub longest_wait: u32,
 }
 
-/// One program with its buffers, and its memory as the last call left it.
+/// One program with its buffers, its host's records, and its memory as the last call left it.
 struct Program<'a> {
     core: &'a mut dyn Core,
     world: World,
+    records: Records,
     memory: Vec<u64>,
 }
 
@@ -48,6 +50,7 @@ impl<'a> Program<'a> {
         Program {
             core,
             world: World::new(),
+            records: Records::new(),
             memory,
         }
     }
@@ -67,36 +70,114 @@ impl<'a> Program<'a> {
     }
 }
 
+/// A list under way: the programs, and what is known of the first one's history.
+struct Run<'a> {
+    programs: Vec<Program<'a>>,
+    billing: Billing,
+    history: History,
+    census: Census,
+}
+
+impl Run<'_> {
+    /// Makes a step's call of every program and checks it. Gives the first program's outcome.
+    fn step(&mut self, step: &Step) -> Result<Outcome, String> {
+        let (programs, call) = (&mut self.programs, &step.call);
+        let rings = programs[0].world.rings();
+        self.census.note_writes(&self.history, rings, &step.writes);
+        let mut outcomes: Vec<Outcome> = programs.iter_mut().map(|it| it.run(step)).collect();
+        compare(call, programs, &outcomes)?;
+        let event = programs[0].world.event(call, &outcomes[0]);
+        self.census.note(&self.history, &event);
+        self.history.check(&event)?;
+        self.hand_over(call, &outcomes)?;
+        self.zero()?;
+        self.try_words(call, &outcomes[0])?;
+        Ok(outcomes.swap_remove(0))
+    }
+
+    /// Rule 15.6: the answer goes to a record, and each record is what the history says.
+    fn hand_over(&mut self, call: &Call, outcomes: &[Outcome]) -> Result<(), String> {
+        let port = self.billing.record(call, &outcomes[0]);
+        let before = self.programs[0].records.of(port);
+        for (program, outcome) in self.programs.iter_mut().zip(outcomes) {
+            let records = &mut program.records;
+            records.hand_over(program.core, port, call, outcome);
+        }
+        let records = &self.programs[0].records;
+        for (index, program) in self.programs.iter().enumerate().skip(1) {
+            if *records != program.records {
+                let fault = records.difference(&program.records);
+                return Err(format!("programs 0 and {index} differ: {fault}"));
+            }
+        }
+        self.history.check_records(&records.all())?;
+        let (answer, change) = ((call, &outcomes[0]), (&before, &records.of(port)));
+        self.census
+            .note_hand_over(&self.history, answer, port, change);
+        Ok(())
+    }
+
+    /// Now and then the host zeroes a record.
+    fn zero(&mut self) -> Result<(), String> {
+        let Some(port) = self.billing.zeroing() else {
+            return Ok(());
+        };
+        for program in &mut self.programs {
+            program.records.zero(port);
+        }
+        let event = Event::Zeroed { port };
+        self.census.note(&self.history, &event);
+        self.history.check(&event)
+    }
+
+    /// Now and then any words to a record that stands anywhere.
+    fn try_words(&mut self, call: &Call, outcome: &Outcome) -> Result<(), String> {
+        let Some(trial) = self.billing.trial(call, outcome) else {
+            return Ok(());
+        };
+        let left = trial.run(self.programs[0].core)?;
+        for (index, program) in self.programs.iter().enumerate().skip(1) {
+            let other = trial.run(program.core)?;
+            if left != other {
+                return Err(format!(
+                    "programs 0 and {index} differ: {left:?} and {other:?} of {trial:?}"
+                ));
+            }
+        }
+        self.census.note_trial(&trial, &left);
+        Ok(())
+    }
+}
+
 /// Runs a list of `calls` random calls through every program at once. After each call all must
 /// have given the same code, the same words and the same rings, grants and sheet; a refused call
-/// must have left memory and answer; and demand 3 must hold of the first program's history.
+/// must have left memory and answer; and demand 3 must hold of the first program's history. All
+/// must have raised the same records by the answers, the first one's as its history says.
 pub fn run(cores: &mut [&mut dyn Core], seed: u64, calls: u64) -> Result<Report, Failure> {
     let mut generator = Generator::new(seed);
-    let mut programs: Vec<Program> = cores.iter_mut().map(|core| Program::new(*core)).collect();
-    let mut history = History::new();
-    let mut census = Census::new();
+    let mut run = Run {
+        programs: cores.iter_mut().map(|core| Program::new(*core)).collect(),
+        billing: Billing::new(seed),
+        history: History::new(),
+        census: Census::new(),
+    };
     for number in 0..calls {
-        let step = generator.next_step(&programs[0].world);
-        census.note_writes(&history, programs[0].world.rings(), &step.writes);
-        let outcomes: Vec<Outcome> = programs.iter_mut().map(|it| it.run(&step)).collect();
-        let checked = compare(&step.call, &mut programs, &outcomes).and_then(|()| {
-            let event = programs[0].world.event(&step.call, &outcomes[0]);
-            census.note(&history, &event);
-            history.check(&event)
-        });
-        if let Err(fault) = checked {
-            return Err(Failure {
-                seed,
-                number,
-                step,
-                fault,
-            });
+        let step = generator.next_step(&run.programs[0].world);
+        match run.step(&step) {
+            Ok(outcome) => generator.observe(&step.call, &outcome),
+            Err(fault) => {
+                return Err(Failure {
+                    seed,
+                    number,
+                    step,
+                    fault,
+                })
+            }
         }
-        generator.observe(&step.call, &outcomes[0]);
     }
     Ok(Report {
-        census,
-        longest_wait: history.longest_wait(),
+        census: run.census,
+        longest_wait: run.history.longest_wait(),
     })
 }
 

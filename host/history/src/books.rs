@@ -78,11 +78,13 @@ impl Books {
         pair
     }
 
-    /// Rule 12.15: a response's pair, from the page left.
-    pub fn answer(&mut self, page: &[u8]) {
-        let pair = self.layout.response_pair(page, self.answered_index());
+    /// Rule 12.15: a response's pair, from the page left. Gives the status that stands beside it.
+    pub fn answer(&mut self, page: &[u8]) -> u16 {
+        let index = self.answered_index();
+        let pair = self.layout.response_pair(page, index);
         self.answered += 1;
         self.weigh(pair, -1);
+        self.layout.response_status(page, index)
     }
 
     pub fn begin(&mut self, tag: usize, serial: u32, pair: Pair) {

@@ -1,4 +1,5 @@
-//! Demand 3, checked from the history alone: section 12 of docs/RULES.md.
+//! Demand 3, checked from the history alone: section 12 of docs/RULES.md; and with it what the records
+//! of counters have to say (rule 15.6).
 //!
 //! [`History`] keeps books from events only, calls with what they were lent, left and answered
 //! ([`Event`]); no field of a backend is looked at. It shares no code with the second program, nor with
@@ -6,15 +7,18 @@
 //! req_cons and rsp_prod_pvt (rule 12.27).
 
 mod books;
+mod counts;
 mod event;
 mod page;
 mod refusal;
 mod sheet;
 mod wait;
 
+pub use counts::Record;
 pub use event::Event;
 
 use books::Books;
+use counts::Counts;
 use page::{
     kind, page, turn, u32_at, DONE_PORT, DONE_WORDS, GRANTS_BYTES, PORTS, REQ_EVENT, REQ_PROD,
     RINGS_BYTES, RING_BYTES, SLOTS, TURN_WORDS,
@@ -41,6 +45,8 @@ struct Port {
     books: Books,
     /// Not dropped at an opening: turns are in a row whatever other calls stand between them.
     wait: Wait,
+    /// Nor is this: the count goes on until the host zeroes the record (rule 15.7).
+    counts: Counts,
 }
 
 impl Port {
@@ -53,6 +59,19 @@ impl Port {
     fn is_overrun(&self, page: &[u8]) -> bool {
         let ahead = u32_at(page, REQ_PROD).wrapping_sub(self.books.taken_index());
         u64::from(ahead) + u64::from(self.books.count_unfinished()) > SLOTS as u64
+    }
+
+    /// Rule 12.13.
+    fn answered_at_once(&mut self, lent: &[u8], left: &[u8]) {
+        self.books.take(lent);
+        self.counts.take();
+        self.answer(left);
+    }
+
+    /// A response, as the page left has it.
+    fn answer(&mut self, left: &[u8]) {
+        let status = self.books.answer(left);
+        self.counts.answer(status);
     }
 }
 
@@ -114,6 +133,7 @@ impl History {
                 answer,
                 ..
             } if code == NONE => self.completed(left, port, tag, answer),
+            Event::Zeroed { port } => self.zeroed(port),
             Event::Open { .. } | Event::Close { .. } => Ok(()),
             Event::Turn { lent, left, .. } | Event::Complete { lent, left, .. } => {
                 unchanged(lent, left, "a refused call")
@@ -148,7 +168,18 @@ impl History {
                 Some(known) if !known.books.is_busy(tag, serial) => NOT_BUSY,
                 Some(_) => NONE,
             },
+            Event::Zeroed { .. } => NONE,
         }
+    }
+
+    /// Checks the eight ports' records as they stand now, each number against the history. It is owed
+    /// where each answer was handed over once, to its port's record and before the next entry.
+    pub fn check_records(&self, records: &[Record; PORTS]) -> Result<(), String> {
+        for (number, (port, record)) in self.ports.iter().zip(records).enumerate() {
+            let checked = port.counts.check(record);
+            checked.map_err(|fault| format!("record of port {number}: {fault}"))?;
+        }
+        Ok(())
     }
 
     /// An opening begins new books, in the layout that its sheet asks for.
@@ -160,6 +191,15 @@ impl History {
 
     fn closed(&mut self, port: usize) -> Result<(), String> {
         self.ports[port].state = State::Closed;
+        Ok(())
+    }
+
+    /// The count of a port begins anew.
+    fn zeroed(&mut self, port: usize) -> Result<(), String> {
+        let Some(port) = self.ports.get_mut(port) else {
+            return Err(format!("there is no record of port {port}"));
+        };
+        port.counts = Counts::default();
         Ok(())
     }
 
@@ -237,10 +277,11 @@ impl History {
             ));
         }
         match answer[turn::KIND] {
-            kind::STARTED => started(&mut port.books, page(lent, number), answer)?,
-            kind::ANSWERED => {
-                answered_at_once(&mut port.books, page(lent, number), page(left, number))
+            kind::STARTED => {
+                started(&mut port.books, page(lent, number), answer)?;
+                port.counts.take();
             }
+            kind::ANSWERED => port.answered_at_once(page(lent, number), page(left, number)),
             _ => {
                 port.state = State::Broken;
                 unchanged(lent, left, "an overrun")?;
@@ -268,10 +309,11 @@ impl History {
         if named != u64::from(port) {
             return Err(format!("the completion of port {port} names {named}"));
         }
-        let books = &mut self.ports[port as usize].books;
-        books.finish(tag as usize);
-        books.answer(page(left, port as usize));
-        books
+        let known = &mut self.ports[port as usize];
+        known.books.finish(tag as usize);
+        known.answer(page(left, port as usize));
+        known
+            .books
             .check()
             .map_err(|fault| format!("port {port}: {fault}"))
     }
@@ -293,12 +335,6 @@ fn started(books: &mut Books, page: &[u8], answer: &[u64; TURN_WORDS]) -> Result
     let pair = books.take(page);
     books.begin(tag, serial, pair);
     Ok(())
-}
-
-/// Rule 12.13.
-fn answered_at_once(books: &mut Books, lent: &[u8], left: &[u8]) {
-    books.take(lent);
-    books.answer(left);
 }
 
 fn port_number(word: u64) -> Result<usize, String> {

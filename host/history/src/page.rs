@@ -72,6 +72,12 @@ impl Layout {
         let at = self.slot_at(index);
         (u64_at(page, at), page[at + 8])
     }
+
+    /// The 16 bits of a response's status (rule 2.10).
+    pub fn response_status(self, page: &[u8], index: u32) -> u16 {
+        let at = self.slot_at(index) + 10;
+        number(&page[at..at + 2]) as u16
+    }
 }
 
 /// A little-endian number.

@@ -23,7 +23,9 @@ fn main() -> Result<(), Box<dyn std::error::Error>> {
         }
     }
     assert_eq!(frame, [7; 4096]);
-    Ok(backend.close(port)?)
+    backend.close(port)?;
+    println!("{port}: {}", backend.take_meter(port)); // for the bill
+    Ok(())
 }
 
 fn carry_out(plan: &Plan, disk: &mut [u8], frame: &mut [u8]) -> i32 {

@@ -1,16 +1,23 @@
 //! The wrapper that most hosts want: a backend with its private buffers, and typed answers.
 
 use crate::answers::{Done, Turn};
-use crate::ffi::{ArchiveMismatch, Completion, Memory};
-use crate::layout::{page, page_mut, GRANTS_BYTES, PORT_GRANTS, RINGS_BYTES, RING_BYTES};
+use crate::ffi::{ArchiveMismatch, Completion, Memory, Meter};
+use crate::layout::{page, page_mut, GRANTS_BYTES, PORTS, PORT_GRANTS, RINGS_BYTES, RING_BYTES};
 use crate::names::{Name, Port};
 use crate::terms::Refusal;
-use crate::words::{DONE_WORDS, TURN_WORDS};
+use crate::words::{turn, DONE_WORDS, TURN_WORDS};
+use std::mem;
 
-/// A backend that owns what its calls are lent: memory, ring pages and grants.
+/// A backend that owns what its calls are lent: memory, ring pages, grants and the ports' meters.
 ///
 /// Its pages are private. Where a guest writes its own page at the same time,
 /// [`crate::live::LiveBackend`] copies between the two.
+///
+/// Each turn and each completion is handed to the meter of its port before it is answered, once, so
+/// a meter counts what its port did since the backend was new or the meter was last taken.
+///
+/// Two backends are equal where all that they own is, meters too. A clone has the meters as they are
+/// and goes on from there: whoever sums up both counts what came before twice.
 ///
 /// ```
 /// use kernelharp::{Backend, Port, Turn};
@@ -29,15 +36,17 @@ pub struct Backend {
     memory: Memory,
     rings: Box<[u8; RINGS_BYTES]>,
     grants: Box<[u8; GRANTS_BYTES]>,
+    meters: [Meter; PORTS],
 }
 
 impl Backend {
-    /// Eight closed ports; pages and grants of zeros.
+    /// Eight closed ports; pages, grants and meters of zeros.
     pub fn new() -> Result<Backend, ArchiveMismatch> {
         Ok(Backend {
             memory: Memory::new()?,
             rings: zeros(),
             grants: zeros(),
+            meters: [Meter::default(); PORTS],
         })
     }
 
@@ -60,6 +69,39 @@ impl Backend {
         grants.try_into().expect("a part of that length")
     }
 
+    /// A port's meter as it is now; it goes on counting. To be read whenever one likes: between two
+    /// calls every answer is in it.
+    pub fn meter(&self, port: Port) -> Meter {
+        self.meters[port.index()]
+    }
+
+    /// Reads a port's meter and zeroes it in one step, at the end of a billing period, say. What a
+    /// meter gave adds up: nothing is lost between two periods, and nothing is in both.
+    ///
+    /// Opening and closing leave meters alone. Where a port is billed by its guest, take the meter
+    /// after the close: with nothing in flight, each request taken has its answer in it.
+    ///
+    /// ```
+    /// use kernelharp::{Backend, Meter, Port, Turn};
+    ///
+    /// let mut backend = Backend::new()?;
+    /// let port = Port::try_from(0)?;
+    /// backend.open(port, b"\x03\x01\0\x01\0\x06\0\x03\0\x07\0\x04\0w5122008")?;
+    /// let page = backend.page_mut(port);
+    /// page[64] = 9; // an operation that nobody knows
+    /// page[0] = 1; // req_prod
+    /// assert!(matches!(backend.turn(), Turn::Answered { .. }));
+    /// let bill = Meter { taken: 1, not_supported: 1, ..Meter::default() };
+    /// assert_eq!(backend.meter(port), bill);
+    /// assert_eq!(backend.take_meter(port), bill);
+    /// assert_eq!(backend.meter(port), Meter::default());
+    /// # Ok::<(), Box<dyn std::error::Error>>(())
+    /// ```
+    #[must_use = "what the meter counted is nowhere else"]
+    pub fn take_meter(&mut self, port: Port) -> Meter {
+        mem::take(&mut self.meters[port.index()])
+    }
+
     /// Opens a closed port from a node sheet.
     pub fn open(&mut self, port: Port, sheet: &[u8]) -> Result<(), Refusal> {
         outcome(self.memory.open(port.number(), sheet))
@@ -77,6 +119,8 @@ impl Backend {
         let code = self
             .memory
             .turn(&mut self.rings[..], &self.grants[..], &mut words);
+        // First of all, so that no answer goes uncounted. Idle names port 0 and raises nothing.
+        self.meters[words[turn::PORT] as usize].turn(code, &words);
         assert_eq!(code, 0, "a turn over buffers of the due lengths");
         Turn::from_words(&words).expect("an answer as the C interface has it")
     }
@@ -86,8 +130,10 @@ impl Backend {
     pub fn complete(&mut self, name: Name, result: i32) -> Result<Done, Refusal> {
         let mut words = [0; DONE_WORDS];
         let named = Completion::of(name, result);
-        let rings = &mut self.rings[..];
-        outcome(self.memory.complete(rings, named, &mut words))?;
+        let code = self.memory.complete(&mut self.rings[..], named, &mut words);
+        // A refusal raises nothing.
+        self.meters[name.port.index()].completion(code, &words);
+        outcome(code)?;
         Ok(Done::from_words(&words).expect("an answer as the C interface has it"))
     }
 }
@@ -103,4 +149,166 @@ fn outcome(code: u32) -> Result<(), Refusal> {
 fn zeros<const BYTES: usize>() -> Box<[u8; BYTES]> {
     let zeros = vec![0; BYTES].into_boxed_slice();
     zeros.try_into().expect("a slice of that length")
+}
+
+#[cfg(test)]
+mod tests {
+    use super::*;
+    use crate::answers::Plan;
+    use crate::layout::{write_u32, Abi, REQ_PROD, SLOTS};
+    use crate::names::Serial;
+    use crate::sheet::Sheet;
+    use crate::terms::Status;
+
+    /// It fails a check where it has no segments.
+    const READ: u8 = 0;
+    const FLUSH: u8 = 3;
+    const UNKNOWN: u8 = 9;
+    const NOT_SUPPORTED: i32 = -95;
+    const IO_ERROR: i32 = -5;
+
+    fn port(number: u32) -> Port {
+        Port::try_from(number).unwrap()
+    }
+
+    fn open(backend: &mut Backend, port: Port) {
+        let sheet = Sheet {
+            writable: true,
+            flush: true,
+            sector_size: 512,
+            sectors: 2008,
+            ..Sheet::default()
+        };
+        backend.open(port, &sheet.bytes()).unwrap();
+        backend.page_mut(port).fill(0);
+    }
+
+    /// Publishes a request of no segments, by its index since the opening.
+    fn post(backend: &mut Backend, port: Port, index: u32, operation: u8) {
+        let page = backend.page_mut(port);
+        page[Abi::Bits64.slot_at(index)..][..Abi::Bits64.slot_bytes()].fill(0);
+        page[Abi::Bits64.slot_at(index)] = operation;
+        write_u32(page, REQ_PROD, index + 1);
+    }
+
+    /// Publishes a flush and starts it.
+    fn started(backend: &mut Backend, port: Port, index: u32) -> Plan {
+        post(backend, port, index, FLUSH);
+        match backend.turn() {
+            Turn::Started(plan) => plan,
+            other => panic!("nothing was started: {other}"),
+        }
+    }
+
+    /// Publishes a flush, starts it and completes it.
+    fn flushed(backend: &mut Backend, port: Port, index: u32, result: i32) {
+        let plan = started(backend, port, index);
+        backend.complete(plan.name, result).map(drop).unwrap();
+    }
+
+    #[track_caller]
+    fn answered(backend: &mut Backend) -> Status {
+        match backend.turn() {
+            Turn::Answered { status, .. } => status,
+            other => panic!("nothing was answered: {other}"),
+        }
+    }
+
+    #[test]
+    fn each_answer_raises_the_meter_of_its_port() {
+        let (mut backend, served) = (Backend::new().unwrap(), port(5));
+        open(&mut backend, served);
+        post(&mut backend, served, 0, UNKNOWN);
+        assert_eq!(answered(&mut backend), Status::NotSupported);
+        assert_eq!(backend.meter(served), Meter::of([1, 0, 0, 1]));
+        post(&mut backend, served, 1, READ);
+        assert_eq!(answered(&mut backend), Status::Error);
+        assert_eq!(backend.meter(served), Meter::of([2, 0, 1, 1]));
+        let plan = started(&mut backend, served, 2);
+        assert_eq!(backend.meter(served), Meter::of([3, 0, 1, 1]));
+        let done = backend.complete(plan.name, plan.expected_result());
+        assert_eq!(done.unwrap().status, Status::Okay);
+        assert_eq!(backend.meter(served), Meter::of([3, 1, 1, 1]));
+        flushed(&mut backend, served, 3, IO_ERROR);
+        assert_eq!(backend.meter(served), Meter::of([4, 1, 2, 1]));
+        flushed(&mut backend, served, 4, NOT_SUPPORTED);
+        assert_eq!(backend.meter(served), Meter::of([5, 1, 2, 2]));
+        for other in Port::all().filter(|&other| other != served) {
+            assert_eq!(backend.meter(other), Meter::default(), "{other}");
+        }
+    }
+
+    #[test]
+    fn refusals_and_idle_turns_raise_nothing() {
+        let (mut backend, served) = (Backend::new().unwrap(), port(0));
+        open(&mut backend, served);
+        flushed(&mut backend, served, 0, 0);
+        let plan = started(&mut backend, served, 1);
+        let before = backend.meters;
+        assert_eq!(backend.turn(), Turn::Idle);
+        assert_eq!(backend.close(served), Err(Refusal::InFlight));
+        let stale = Name {
+            serial: Serial(0),
+            ..plan.name
+        };
+        assert_eq!(backend.complete(stale, 0), Err(Refusal::NotBusy));
+        let elsewhere = Name {
+            port: port(1),
+            ..plan.name
+        };
+        assert_eq!(backend.complete(elsewhere, 0), Err(Refusal::IsClosed));
+        assert_eq!(backend.meters, before);
+    }
+
+    #[test]
+    fn a_broken_port_counts_its_completions_alone() {
+        let (mut backend, broken) = (Backend::new().unwrap(), port(7));
+        open(&mut backend, broken);
+        let plan = started(&mut backend, broken, 0);
+        post(&mut backend, broken, SLOTS as u32, FLUSH);
+        assert_eq!(backend.turn(), Turn::Overrun(broken));
+        assert_eq!(backend.turn(), Turn::Idle);
+        assert_eq!(backend.meter(broken), Meter::of([1, 0, 0, 0]));
+        backend.complete(plan.name, IO_ERROR).map(drop).unwrap();
+        assert_eq!(backend.meter(broken), Meter::of([1, 0, 1, 0]));
+    }
+
+    #[test]
+    fn a_port_opened_anew_counts_on() {
+        let (mut backend, port) = (Backend::new().unwrap(), port(3));
+        for opening in 1..=3 {
+            open(&mut backend, port);
+            flushed(&mut backend, port, 0, 0);
+            backend.close(port).unwrap();
+            assert_eq!(backend.meter(port), Meter::of([opening, opening, 0, 0]));
+        }
+    }
+
+    /// A request in flight at the end of a period is taken in one and answered in the next.
+    #[test]
+    fn meters_that_were_taken_add_up() {
+        let (mut backend, [one, other]) = (Backend::new().unwrap(), [port(2), port(6)]);
+        open(&mut backend, one);
+        open(&mut backend, other);
+        flushed(&mut backend, one, 0, 0);
+        flushed(&mut backend, other, 0, 0);
+        let plan = started(&mut backend, one, 1);
+        assert_eq!(backend.take_meter(one), Meter::of([2, 1, 0, 0]));
+        backend.complete(plan.name, 0).map(drop).unwrap();
+        assert_eq!(backend.take_meter(one), Meter::of([0, 1, 0, 0]));
+        assert_eq!(backend.take_meter(one), Meter::default());
+        assert_eq!(backend.meter(other), Meter::of([1, 1, 0, 0]));
+    }
+
+    #[test]
+    fn clones_have_the_meters_and_equal_ones_the_same() {
+        let (mut backend, port) = (Backend::new().unwrap(), port(4));
+        open(&mut backend, port);
+        flushed(&mut backend, port, 0, 0);
+        let mut clone = backend.clone();
+        assert_eq!(clone, backend);
+        assert_eq!(clone.take_meter(port), Meter::of([1, 1, 0, 0]));
+        assert_ne!(clone, backend);
+        assert_eq!(backend.meter(port), Meter::of([1, 1, 0, 0]));
+    }
 }

@@ -10,7 +10,7 @@ use std::sync::atomic::AtomicU32;
 
 /// The version that this package was built for, as `kh_version` gives it: major x 10,000 + minor x
 /// 100 + patch.
-pub const VERSION: u32 = 300;
+pub const VERSION: u32 = 400;
 /// How many words of backend memory this package was built for (`KH_MEMORY_WORDS`).
 pub const MEMORY_WORDS: usize = 1121;
 
@@ -37,6 +37,8 @@ extern "C" {
         result: i32,
         answer: *mut u64,
     ) -> u32;
+    fn kh_meter_turn(meter: *mut Meter, returned: u32, answer: *const u64);
+    fn kh_meter_completion(meter: *mut Meter, returned: u32, answer: *const u64);
 }
 
 /// The archive that was linked is another than this package was built for.
@@ -173,6 +175,64 @@ impl Memory {
     }
 }
 
+/// A port's counters (rule 15.1): `kh_meter`. A number that got to 2^64 - 1 stays there.
+///
+/// [`crate::Backend`] has one for each port and hands every answer over itself. Over a [`Memory`] that
+/// is the host's part: each answer once, to the meter of the port that it names, right after the call.
+#[repr(C)]
+#[derive(Clone, Copy, Debug, Default, PartialEq, Eq)]
+pub struct Meter {
+    /// Requests taken, started ones and those answered at once.
+    pub taken: u64,
+    /// Answers with the status okay.
+    pub okay: u64,
+    /// Answers with the status error.
+    pub error: u64,
+    /// Answers with the status not supported.
+    pub not_supported: u64,
+}
+
+impl Meter {
+    /// `kh_meter_turn`: raised by what a turn returned and the words that it left, whatever they are.
+    pub fn turn(&mut self, returned: u32, answer: &TurnWords) {
+        // SAFETY: `Meter` is laid out as `kh_meter`; the answer has its fixed length.
+        unsafe { kh_meter_turn(self, returned, answer.as_ptr()) }
+    }
+
+    /// `kh_meter_completion`: raised by what a completion returned and the words that it left, whatever
+    /// they are.
+    pub fn completion(&mut self, returned: u32, answer: &DoneWords) {
+        // SAFETY: as in `turn`.
+        unsafe { kh_meter_completion(self, returned, answer.as_ptr()) }
+    }
+
+    /// The meter of four numbers, in the order of the fields.
+    #[cfg(test)]
+    pub(crate) fn of([taken, okay, error, not_supported]: [u64; 4]) -> Meter {
+        Meter {
+            taken,
+            okay,
+            error,
+            not_supported,
+        }
+    }
+}
+
+impl fmt::Display for Meter {
+    fn fmt(&self, f: &mut fmt::Formatter) -> fmt::Result {
+        let Meter {
+            taken,
+            okay,
+            error,
+            not_supported,
+        } = self;
+        write!(
+            f,
+            "taken {taken}, okay {okay}, error {error}, not supported {not_supported}"
+        )
+    }
+}
+
 fn check_archive(version: u32, memory_words: u32) -> Result<(), ArchiveMismatch> {
     if version == VERSION && memory_words as usize == MEMORY_WORDS {
         return Ok(());
@@ -244,6 +304,7 @@ impl Mapping {
 #[cfg(test)]
 mod tests {
     use super::*;
+    use crate::words::{kind, turn, TURN_WORDS};
 
     #[test]
     fn the_version_is_that_of_the_package() {
@@ -256,6 +317,26 @@ mod tests {
             100 * version + part.parse::<u32>().unwrap()
         });
         assert_eq!(VERSION, version);
+    }
+
+    #[test]
+    fn a_meter_prints_its_numbers() {
+        let printed = Meter::of([4, 3, 2, 1]).to_string();
+        assert_eq!(printed, "taken 4, okay 3, error 2, not supported 1");
+    }
+
+    /// Answers of every status, to numbers that are as high as they get.
+    #[test]
+    fn a_full_meter_stays() {
+        let full = Meter::of([u64::MAX; 4]);
+        let mut meter = full;
+        for status in 0..3 {
+            let mut answered = [0; TURN_WORDS];
+            (answered[turn::KIND], answered[turn::STATUS]) = (kind::ANSWERED, status);
+            meter.turn(0, &answered);
+            meter.completion(0, &[0, status, 0, 0]);
+        }
+        assert_eq!(meter, full);
     }
 
     #[test]

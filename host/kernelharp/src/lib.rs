@@ -2,10 +2,12 @@
 //!
 //! - [`Backend`]: the four calls over private buffers that it owns, with typed answers ([`Turn`],
 //!   [`Plan`], [`Done`]) and refusals as errors ([`Refusal`]).
+//!   Each port has its [`Meter`], which the calls raise ([`Backend::meter`], [`Backend::take_meter`]).
 //! - [`live`]: the same over ring pages that guests may write at the same time.
 //! - [`Sheet`]: node sheets from a disk's properties and its guest's layout ([`Abi`]).
 //! - [`Memory`]: the C functions over slices of any length, for tests and for hosts with buffers of
-//!   their own; its answers are words, which [`words`] names.
+//!   their own; its answers are words, which [`words`] names, and such a host hands them to its
+//!   [`Meter`]s itself.
 //! - [`layout`]: sizes and places of buffers, pages and slots, the latter by [`Abi`].
 //!
 //! A guest has 64-bit or 32-bit records; each port is opened for one of the two, and one backend serves
@@ -32,7 +34,7 @@ pub mod words;
 
 pub use answers::{Done, Extent, Plan, Turn};
 pub use backend::Backend;
-pub use ffi::{ArchiveMismatch, Completion, Memory, MEMORY_WORDS, VERSION};
+pub use ffi::{ArchiveMismatch, Completion, Memory, Meter, MEMORY_WORDS, VERSION};
 pub use layout::Abi;
 pub use names::{Name, Port, Serial, Tag};
 pub use sheet::Sheet;

@@ -1,5 +1,6 @@
 //! What a long run should show.
 
+use super::meters::{meter_classes, port_meter_classes};
 use super::sheets::{body_class, opened_by, protocol_fault, NUMBER, TEXT};
 use super::{class_of, reopened_class, served_after_class};
 use crate::sheets::NEAR_PROTOCOLS;
@@ -38,6 +39,7 @@ pub fn expected_classes() -> Vec<String> {
     classes.extend([6, 7, 9].map(|node| body_class(NUMBER, node)));
     classes.extend(NEAR_PROTOCOLS.map(protocol_fault));
     classes.push(opened_by(None));
+    classes.extend(meter_classes());
     for abi in Abi::ALL {
         classes.push(opened_by(Some(abi.protocol())));
         let port_classes = port_classes();
@@ -59,6 +61,7 @@ fn port_classes() -> Vec<String> {
     classes.extend((21..=29).map(|reason| format!("answered {reason}")));
     classes.extend(Abi::ALL.map(reopened_class));
     classes.extend(Abi::ALL.map(served_after_class));
+    classes.extend(port_meter_classes());
     classes
 }
 

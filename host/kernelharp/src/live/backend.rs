@@ -3,7 +3,7 @@
 use super::SharedPage;
 use crate::answers::{Done, Turn};
 use crate::backend::Backend;
-use crate::ffi::ArchiveMismatch;
+use crate::ffi::{ArchiveMismatch, Meter};
 use crate::layout::{Abi, PORTS, PORT_GRANTS};
 use crate::names::{Name, Port};
 use crate::terms::Refusal;
@@ -29,6 +29,17 @@ impl LiveBackend {
     /// A port's grants, as [`Backend::grants_mut`] has them.
     pub fn grants_mut(&mut self, port: Port) -> &mut [u8; PORT_GRANTS] {
         self.backend.grants_mut(port)
+    }
+
+    /// A port's meter as it is now, as [`Backend::meter`] has it.
+    pub fn meter(&self, port: Port) -> Meter {
+        self.backend.meter(port)
+    }
+
+    /// Reads a port's meter and zeroes it, as [`Backend::take_meter`] has it.
+    #[must_use = "what the meter counted is nowhere else"]
+    pub fn take_meter(&mut self, port: Port) -> Meter {
+        self.backend.take_meter(port)
     }
 
     /// Opens a closed port over a page, which isn't touched. The page is laid out as the sheet says.

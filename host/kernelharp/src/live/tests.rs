@@ -3,6 +3,7 @@
 
 use super::{LiveBackend, Mapping, SharedPage, RING_WORDS};
 use crate::answers::{Plan, Turn};
+use crate::ffi::Meter;
 use crate::layout::{
     read_u32, write_u32, Abi, REQ_EVENT, REQ_PROD, RING_BYTES, RSP_EVENT, RSP_PROD,
 };
@@ -50,6 +51,7 @@ in_both_layouts! {
     turns_and_completions_through_a_live_page
     a_broken_port_is_neither_read_nor_armed_but_completes
     every_slot_comes_round
+    a_port_is_metered_across_openings
     nothing_of_the_other_layout_stays
     a_port_opened_anew_has_the_layout_of_its_new_sheet
 }
@@ -439,6 +441,32 @@ fn every_slot_comes_round(abi: Abi) {
         assert_eq!(guest.get(RSP_PROD), index + 1);
         assert_eq!(guest.bytes()[abi.slot_at(index)], index as u8);
     }
+}
+
+fn a_port_is_metered_across_openings(abi: Abi) {
+    let (mut backend, mut guest) = opened(abi);
+    guest.post(0, UNKNOWN);
+    let _ = backend.turn();
+    guest.post(1, FLUSH);
+    let plan = started(backend.turn());
+    guest.set(REQ_PROD, 40);
+    assert_eq!(backend.turn(), Turn::Overrun(port(2)));
+    assert_eq!(backend.meter(port(2)), Meter::of([2, 0, 0, 1]));
+    // Idle, so that it takes two looks; and a completion that is doubled.
+    assert_eq!(backend.turn(), Turn::Idle);
+    backend.complete(plan.name, 0).map(drop).unwrap();
+    let doubled = backend.complete(plan.name, 0);
+    assert_eq!(doubled, Err(Refusal::NotBusy));
+    let page = backend.close(port(2)).unwrap();
+    guest = guest.other();
+    guest.set(RSP_PROD, 0);
+    guest.post(0, FLUSH);
+    backend.open(port(2), &guest.sheet(), page).unwrap();
+    let plan = started(backend.turn());
+    assert_eq!(backend.take_meter(port(2)), Meter::of([3, 1, 0, 1]));
+    backend.complete(plan.name, -5).map(drop).unwrap();
+    assert_eq!(backend.take_meter(port(2)), Meter::of([0, 0, 1, 0]));
+    assert_eq!(backend.meter(port(2)), Meter::default());
 }
 
 /// Requests copied, taken and answered in one layout leave nothing for a port opened in the other.
