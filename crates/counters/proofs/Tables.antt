@@ -1,4 +1,4 @@
--- The words that raise nothing: what is left of each table of specs when its named numbers are gone. Assumes nothing.
+-- What the tables of specs say of words that they do not name, and of a call that was refused or done. Assumes nothing.
 use mathlib.Core.Path.{_≡_, refl}
 use mathlib.Core.Logic.{_≢_}
 use Prim.Native.Nat.{ℕ, zero, suc}

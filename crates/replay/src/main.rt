@@ -140,7 +140,39 @@ fn complete(
     meters::after_completion(meters, answer);
 }
 
-// One of the four calls, or a look at counters.
+// A completion by its line, with all of the rings lent or with as many bytes as it says.
+fn complete_line(
+    memory: &mut [u64; WORDS],
+    rings: &mut [u8; RINGS_BYTES],
+    meters: &mut [u64; METERS],
+    letter: u8,
+    c: &[u64; NUMBERS],
+    negative: bool,
+) {
+    if letter == b'f' {
+        complete(
+            memory,
+            rings,
+            meters,
+            LENT_RINGS,
+            [c[0], c[1], c[2]],
+            input::signed(c[3], negative),
+        );
+        return;
+    }
+    if letter == b'F' {
+        complete(
+            memory,
+            rings,
+            meters,
+            c[0],
+            [c[1], c[2], c[3]],
+            input::signed(c[4], negative),
+        );
+    }
+}
+
+// A call but open, or a look at counters.
 fn call(
     memory: &mut [u64; WORDS],
     rings: &mut [u8; RINGS_BYTES],
@@ -162,31 +194,11 @@ fn call(
         take_turn(memory, rings, grants, meters, c[0], c[1]);
         return;
     }
-    if letter == b'f' {
-        complete(
-            memory,
-            rings,
-            meters,
-            LENT_RINGS,
-            [c[0], c[1], c[2]],
-            input::signed(c[3], negative),
-        );
-        return;
-    }
-    if letter == b'F' {
-        complete(
-            memory,
-            rings,
-            meters,
-            c[0],
-            [c[1], c[2], c[3]],
-            input::signed(c[4], negative),
-        );
-        return;
-    }
     if letter == b'm' {
         meters::show(meters, c[0]);
+        return;
     }
+    complete_line(memory, rings, meters, letter, c, negative);
 }
 
 // A line that is no comment. Only a result can be negative, so a minus sign anywhere is its own.
