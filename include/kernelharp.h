@@ -35,7 +35,7 @@ extern "C" {
  * KH_MEMORY_WORDS. A host asks for both at its start and makes no other call when one of them is not the header's: the
  * header and the archive are then not of one release, or not built for the same memory.
  */
-#define KH_VERSION 400 /* 0.4.0 */
+#define KH_VERSION 401 /* 0.4.1 */
 uint32_t kh_version(void);
 uint32_t kh_memory_words(void);
 

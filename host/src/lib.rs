@@ -13,7 +13,9 @@ pub use ask::Ask;
 pub use bench::Bench;
 pub use both::Both;
 pub use records::Records;
-pub use sheets::{full_sheet, sheet, usual_sheet, usual_sheet_of, with_protocol};
+pub use sheets::{
+    full_sheet, sheet, sheet_number, usual_sheet, usual_sheet_of, with_node, with_protocol,
+};
 pub use story::{faulty, Checked, Pair, Story};
 
 /// The README's listing, compiled and run with the tests.

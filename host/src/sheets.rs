@@ -1,18 +1,39 @@
 //! Node sheets of the tests.
 
+use crate::Both;
 use kernelharp::layout::Abi;
+use std::collections::BTreeMap;
 
 /// A sheet of entries, with the table of contents that belongs to them.
-pub fn sheet(entries: &[(u8, &str)]) -> Vec<u8> {
+pub fn sheet<T: AsRef<[u8]>>(entries: &[(u8, T)]) -> Vec<u8> {
     let mut sheet = vec![entries.len() as u8];
     for (node, body) in entries {
         sheet.extend([*node, 0]);
-        sheet.extend((body.len() as u16).to_le_bytes());
+        sheet.extend((body.as_ref().len() as u16).to_le_bytes());
     }
     for (_, body) in entries {
-        sheet.extend(body.as_bytes());
+        sheet.extend(body.as_ref());
     }
     sheet
+}
+
+/// The usual nodes 1, 6 and 7, with one node set to another text.
+pub fn with_node(node: u8, text: impl AsRef<[u8]>) -> Vec<u8> {
+    let mut entries = BTreeMap::from([(1, &b"w"[..]), (6, b"512"), (7, b"2008")]);
+    entries.insert(node, text.as_ref());
+    sheet(&entries.into_iter().collect::<Vec<_>>())
+}
+
+/// The number a sheet is refused with, 0 when it opens the port.
+pub fn sheet_number(sheet: &[u8]) -> u32 {
+    let mut backend = Both::new();
+    match backend.open(0, sheet) {
+        Ok(()) => 0,
+        Err(refusal) => {
+            assert_eq!(backend, Both::new());
+            refusal as u32
+        }
+    }
 }
 
 /// A sheet with every feature on.

@@ -2,28 +2,7 @@
 //! 7.15).
 
 use second::{read_sheet, Disk, Layout};
-use tests::{sheet, usual_sheet, Bench};
-
-/// The number a sheet is refused with, 0 when it opens the port.
-fn sheet_number(sheet: &[u8]) -> u32 {
-    let mut bench = Bench::new();
-    match bench.backend.open(0, sheet) {
-        Ok(()) => 0,
-        Err(refusal) => {
-            assert_eq!(bench.backend, Bench::new().backend);
-            refusal as u32
-        }
-    }
-}
-
-/// The usual nodes 1, 6 and 7, with one node set to another text.
-fn with_node(node: u8, text: &str) -> Vec<u8> {
-    let mut entries = vec![(1, "w"), (6, "512"), (7, "2008")];
-    entries.retain(|entry| entry.0 != node);
-    entries.push((node, text));
-    entries.sort();
-    sheet(&entries)
-}
+use tests::{sheet, sheet_number, usual_sheet, with_node};
 
 fn node_number(node: u8, text: &str) -> u32 {
     sheet_number(&with_node(node, text))

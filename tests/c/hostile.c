@@ -90,6 +90,15 @@ static int32_t any_result(const started *request) {
     return one_in(4) ? (int32_t)(uint32_t)any() : usual[below(COUNT_OF(usual))];
 }
 
+/* A sheet that ends with digits of any length, as its sectors. */
+static sheet any_sectors(void) {
+    char nodes[64] = "1:w 4:1 6:512 7:";
+    size_t end = strlen(nodes);
+    for (uint32_t digits = 1 + below(40); digits > 0; digits--)
+        nodes[end++] = (char)('0' + below(10));
+    return sheet_of(nodes);
+}
+
 /* A good sheet, one with some bytes or its length changed, or rubbish. */
 static sheet any_sheet(void) {
     static const char *const good[] = {USUAL_NODES,
@@ -104,7 +113,7 @@ static sheet any_sheet(void) {
                                        "1:w 4:1 5:1 6:1024 7:18446744073709551615 8:x86_32-abi",
                                        "1:w 6:512",
                                        "1:w 6:513 7:1"};
-    sheet s = sheet_of(good[below(COUNT_OF(good))]);
+    sheet s = one_in(4) ? any_sectors() : sheet_of(good[below(COUNT_OF(good))]);
     uint8_t *changed = &s.bytes[below((uint32_t)s.length)];
     if (one_in(3))
         *changed = one_in(2) ? (uint8_t)any() : (uint8_t)below(12);

@@ -192,17 +192,111 @@ static void refusal_14_number_not_allowed(host *h) {
     READ_EACH(h, right, KH_OK);
 }
 
-/* The longest body that a length of 16 bits can give, all of one digit. */
+/* The longest bodies that a length of 16 bits can give, all of one digit, and with another byte at a place. */
 static void refusal_14_long_number(host *h) {
     static uint8_t bytes[13 + 4 + 65535];
     sheet head = sheet_of("1:w 6:512 7:");
     memset(bytes, '9', sizeof bytes);
     memcpy(bytes, head.bytes, head.length);
-    put(bytes + 11, 2, 65535);
-    CHECK_EQ(OPEN(h, 0, bytes, head.length + 65535), 14);
-    bytes[head.length + 65534] = 'x';
-    CHECK_EQ(OPEN(h, 0, bytes, head.length + 65535), 13);
-    CHECK_EQ(OPEN(h, 0, bytes, head.length + 65534), 11);
+    for (size_t digits = 65535 - 8; digits <= 65535; digits++) {
+        const size_t places[] = {0, digits / 2, digits - 9, digits - 8, digits - 1};
+        put(bytes + 11, 2, digits);
+        CHECK_EQ(OPEN(h, 0, bytes, head.length + digits), 14);
+        CHECK_EQ(OPEN(h, 0, bytes, head.length + digits - 1), 11);
+        for (size_t i = 0; i < COUNT_OF(places); i++) {
+            bytes[head.length + places[i]] = 'x';
+            CHECK_EQ(OPEN(h, 0, bytes, head.length + digits), 13);
+            bytes[head.length + places[i]] = '9';
+        }
+    }
+}
+
+/* ---- numbers of every length, at the very end of what is lent: a reader of several digits a step stays within */
+
+enum { LONGEST = 40 };
+
+/* A sheet that ends with these digits. */
+static sheet sheet_ending(const char *nodes, const char *digits) {
+    char text[128];
+    snprintf(text, sizeof text, "%s%s", nodes, digits);
+    return sheet_of(text);
+}
+
+/* A disk of so many sectors: the last can be discarded, and none behind it. Above 2^64 - 1 there is none. */
+static void do_check_sectors(host *h, const char *digits) {
+    static const char greatest[] = "18446744073709551615";
+    size_t length = strlen(digits), most = strlen(greatest);
+    bool fits = length < most || (length == most && strcmp(digits, greatest) <= 0);
+    uint64_t sectors = strtoull(digits, NULL, 10);
+    sheet s = sheet_ending("1:w 4:1 6:512 7:", digits);
+    reset(h);
+    check_at(__FILE__, __LINE__, digits, do_open(h, 0, s.bytes, s.length) == (fits ? KH_OK : 14));
+    if (fits && sectors > 0)
+        check_at(__FILE__, __LINE__, digits, do_judge(h, discard(0, sectors - 1, 1)) == 0);
+    if (fits)
+        check_at(__FILE__, __LINE__, digits, do_judge(h, discard(0, sectors, 1)) == 28);
+}
+
+#define CHECK_SECTORS(h, digits) MADE_HERE(do_check_sectors(h, digits))
+
+/* From place to place the digit goes on by a step, round and round. */
+static void sectors_of_every_length(host *h) {
+    CHECK_SECTORS(h, "0");
+    for (unsigned length = 1; length <= LONGEST; length++)
+        for (unsigned first = 1; first <= 9; first++)
+            for (unsigned step = 0; step <= 9; step++) {
+                char digits[LONGEST + 1] = "";
+                for (unsigned place = 0; place < length; place++)
+                    digits[place] = (char)('0' + (first + step * place) % 10);
+                CHECK_SECTORS(h, digits);
+            }
+}
+
+static void refusal_14_from_2_to_the_64_on(host *h) {
+    char digits[LONGEST + 1];
+    for (unsigned last = 0; last < 100; last++) {
+        snprintf(digits, sizeof digits, "184467440737095516%02u", last);
+        CHECK_SECTORS(h, digits);
+    }
+    for (int zeros = 1; zeros < LONGEST; zeros++) {
+        snprintf(digits, sizeof digits, "1%0*d", zeros, 0);
+        CHECK_SECTORS(h, digits);
+    }
+}
+
+/* Bytes next to the digits, and digits with one bit changed, in the one body of a sheet. */
+static void wrong_byte_at_every_place(host *h, const char *node, size_t length) {
+    static const uint8_t wrong[] = {'/', ':', ' ', '-', 0x00, 0xFF, 0x10, 0x19, 0x70, 0x79, 0xB0, 0xB9};
+    char digits[LONGEST + 1] = "";
+    memset(digits, '1', length);
+    sheet s = sheet_ending(node, digits);
+    for (size_t place = 1; place <= length; place++) {
+        uint8_t *changed = &s.bytes[s.length - place];
+        for (size_t i = 0; i < COUNT_OF(wrong); i++) {
+            *changed = wrong[i];
+            CHECK_EQ(READ_BYTES(h, s), 13);
+        }
+        *changed = '1';
+    }
+}
+
+static void refusal_13_wrong_byte_at_every_place(host *h) {
+    for (size_t length = 1; length <= LONGEST; length++) {
+        wrong_byte_at_every_place(h, "6:", length);
+        wrong_byte_at_every_place(h, "7:", length);
+        wrong_byte_at_every_place(h, "9:", length);
+    }
+}
+
+static void refusal_13_leading_zeros(host *h) {
+    for (size_t length = 2; length <= LONGEST; length++) {
+        char digits[LONGEST + 1] = "";
+        memset(digits, '7', length);
+        for (size_t zeros = 1; zeros <= length; zeros++) {
+            digits[zeros - 1] = '0';
+            CHECK_EQ(READ_BYTES(h, sheet_ending("1:w 6:512 7:", digits)), 13);
+        }
+    }
 }
 
 static void refusal_13_14_first_body_at_fault(host *h) {
@@ -240,6 +334,10 @@ int main(void) {
         TEST(refusal_13_not_a_number),
         TEST(refusal_14_number_not_allowed),
         TEST(refusal_14_long_number),
+        TEST(sectors_of_every_length),
+        TEST(refusal_14_from_2_to_the_64_on),
+        TEST(refusal_13_wrong_byte_at_every_place),
+        TEST(refusal_13_leading_zeros),
         TEST(refusal_13_14_first_body_at_fault),
         TEST(refusal_15_node_missing),
         TEST(layout_that_a_sheet_asks_for),

@@ -1,154 +1,131 @@
--- The laws of the decimal reader: one byte more, and what is left to read. Assumes nothing.
-use mathlib.Core.Path.{_≡_, refl, sym}
-use mathlib.Core.Bool.{Bool, true, false, cond, _&&_}
-use mathlib.Core.List.{List, [], _∷_}
-use Prim.Native.Nat.{ℕ, suc, _+_, _-_, _*_, _^_, _<_, _≤_}
-use native.Mathlib.Decide.{decLt}
-use native.Mathlib.Numerals.{add-one}
+-- The laws of digits: a value that is too big, the value of digits, and a part of the text by its halves. Assumes nothing.
+use mathlib.Core.Path.{_≡_, refl, sym, _∙_}
+use mathlib.Core.Bool.{true, _&&_, and-true, and-assoc}
+use mathlib.Core.List.{List, [], _∷_, _++_}
+use Prim.Native.Nat.{ℕ, _+_, _-_, _*_, _^_, _<_, _≤_}
+use native.Mathlib.Nat.{zero-add, add-assoc, add-mul, mul-assoc, pow-succ', pow-le-pow-right, mul-le-mul-right}
 use native.Mathlib.Omega.{arith}
+use lib.Dec.{leb}
+use lib.Pow.{pow-add}
 use lib.ListN.{length, getD, drop}
-use lib.Seq.{drop-cons}
-use borrow.Author.Tests.{le-leb, lt-leb, lt-ltb, le-ltb, eq-eqb, ne-eqb}
+use lib.Seq.{drop-cons, take-add, drop-drop}
+use borrow.Author.Tests.{lt-ltb, le-ltb, leb-true}
+use Rattle.wire.specs.Part.{part}
+use Rattle.wire.proofs.Part.{length-part}
 use Rattle.model.specs.Base.{all}
-use Rattle.model.specs.NodeSheet.{isDigit, digitsFrom, capped, digitsOf, numberOf}
+use Rattle.model.specs.NodeSheet.{isDigit, digitsFrom, capped}
 use Rattle.model.specs.declared.Number.{Number}
-use Rattle.decimal.specs.Digits.{moreOf}
+use Rattle.model.proofs.Base.{and-left, and-right}
 
--- ---- a byte, and a value
+-- ---- a value
 
-not-below : (d : ℕ) → d < 48 → isDigit d ≡ false
-unfolding isDigit
-not-below d h = rw (lt-leb 48 d h)
-
-not-above : (d : ℕ) → 57 < d → isDigit d ≡ false
-unfolding isDigit
-not-above d h = rw (le-leb 48 d (omega arith), lt-leb d 57 h)
-
-is-digit : (d : ℕ) → 48 ≤ d → d ≤ 57 → isDigit d ≡ true
-unfolding isDigit
-is-digit d h l = rw (le-leb 48 d h, le-leb d 57 l)
-
-too-big : (v : ℕ) → 2 ^ 64 ≤ v → capped v ≡ Number.TooBig
+pub too-big : (v : ℕ) → 2 ^ 64 ≤ v → capped v ≡ Number.TooBig
 unfolding capped
 too-big v h = rw (le-ltb v (2 ^ 64) h)
 
-in-range : (v : ℕ) → v < 2 ^ 64 → capped v ≡ Number.Value v
+pub in-range : (v : ℕ) → v < 2 ^ 64 → capped v ≡ Number.Value v
 unfolding capped
 in-range v h = rw (lt-ltb v (2 ^ 64) h)
 
--- ---- what `more` tests
+-- ---- the value of digits
 
-no-digit : (n : Number) (d : ℕ) → isDigit d ≡ false → moreOf n d ≡ Number.NotANumber
-unfolding moreOf
-no-digit (Number.Value v) d h = rw h
-no-digit Number.TooBig d h = rw h
-no-digit Number.NotANumber d h = refl
+-- a digit is from 48 to 57
+pub digit-range : (d : ℕ) → isDigit d ≡ true → (48 ≤ d) × (d ≤ 57)
+unfolding isDigit
+digit-range d h = (leb-true 48 d (and-left (leb 48 d) (leb d 57) h), leb-true d 57 (and-right (leb 48 d) (leb d 57) h))
 
-pub more-below : (n : Number) (d : ℕ) → d < 48 → Number.NotANumber ≡ moreOf n d
-more-below n d h = sym (no-digit n d (not-below d h))
+pub digit-below : (d : ℕ) → isDigit d ≡ true → d - 48 < 10
+digit-below d h = omega (arith, digit-range d h)
 
-pub more-above : (n : Number) (d : ℕ) → 57 < d → Number.NotANumber ≡ moreOf n d
-more-above n d h = sym (no-digit n d (not-above d h))
-
--- a digit after what was read
-module _ (n : Number) (d : ℕ) (h : 48 ≤ d) (l : d ≤ 57) where
-  pub more-value : (v : ℕ) → n ≡ Number.Value v → v * 10 + (d - 48) < 2 ^ 64 → Number.Value (v * 10 + (d - 48)) ≡ moreOf n d
-  unfolding moreOf
-  more-value v e s = rw (e, is-digit d h l) (sym (in-range _ s))
-
-  pub more-capped : (v : ℕ) → n ≡ Number.Value v → 2 ^ 64 ≤ v * 10 + (d - 48) → Number.TooBig ≡ moreOf n d
-  unfolding moreOf
-  more-capped v e s = rw (e, is-digit d h l) (sym (too-big _ s))
-
-  pub more-big : n ≡ Number.TooBig → Number.TooBig ≡ moreOf n d
-  unfolding moreOf
-  more-big e = rw (e, is-digit d h l)
-
-pub more-none : (n : Number) (d : ℕ) → n ≡ Number.NotANumber → Number.NotANumber ≡ moreOf n d
-unfolding moreOf
-more-none n d e = rw e
-
--- ---- what is left to read
-
--- what a text spells after what is read so far
-unfoldable pub rest : Number → List ℕ → Number
-rest (Number.Value v) text = cond (all isDigit text) (capped (digitsFrom v text)) Number.NotANumber
-rest Number.TooBig text = cond (all isDigit text) Number.TooBig Number.NotANumber
-rest Number.NotANumber text = Number.NotANumber
+-- digits in one step are as many steps of one: they move the value before them up by that many places
+pub digits-after : (ds : List ℕ) (a : ℕ) → digitsFrom a ds ≡ a * 10 ^ length ds + digitsFrom 0 ds
+unfolding digitsFrom
+digits-after [] a = omega arith
+digits-after (d ∷ ds) a =
+    digits-after ds (a * 10 + (d - 48)) ∙ rw (digits-after ds (0 * 10 + (d - 48)), zero-add, pow-succ', add-mul, mul-assoc, add-assoc)
 
 -- digits make a value no smaller
-grows : (text : List ℕ) (v : ℕ) → v ≤ digitsFrom v text
+pub grows : (ds : List ℕ) (v : ℕ) → v ≤ digitsFrom v ds
 unfolding digitsFrom
 grows [] v = omega arith
 grows (d ∷ ds) v = omega (arith, grows ds (v * 10 + (d - 48)))
 
--- capped before the rest is read, or after
-rest-capped : (v : ℕ) (text : List ℕ) → rest (capped v) text ≡ cond (all isDigit text) (capped (digitsFrom v text)) Number.NotANumber
-unfolding rest
-rest-capped v text = elim (decLt v (2 ^ 64)) [
-  | yes h ↦ rw (in-range v h)
-  | no h ↦ rw (too-big v (omega arith), too-big (digitsFrom v text) (omega (arith, grows text v)))
-]
+-- n digits are below ten to the power of n
+digits-below : (ds : List ℕ) → all isDigit ds ≡ true → digitsFrom 0 ds < 10 ^ length ds
+unfolding digitsFrom all
+digits-below [] h = omega arith
+digits-below (d ∷ ds) h =
+    let r = digit-range d (and-left (isDigit d) (all isDigit ds) h) in
+    let below = digits-below ds (and-right (isDigit d) (all isDigit ds) h) in
+    let most : (d - 48) * 10 ^ length ds ≤ 9 * 10 ^ length ds = mul-le-mul-right (10 ^ length ds) (omega (arith, r)) in
+    rw (digits-after ds (0 * 10 + (d - 48)), pow-succ') (omega (arith, below, most))
 
-rest-value : (b : Bool) (v : ℕ) (text : List ℕ)
-    → rest (cond b (capped v) Number.NotANumber) text ≡ cond (b && all isDigit text) (capped (digitsFrom v text)) Number.NotANumber
-unfolding rest
-rest-value false v text = refl
-rest-value true v text = rest-capped v text
+-- a digit after n digits is below ten to the power of n + 1
+pub digit-after : (n v d : ℕ) → v < 10 ^ n → d < 10 → v * 10 + d < 10 ^ (n + 1)
+digit-after n v d h l = rw (pow-add 10 n 1) (omega (arith, h, l))
 
-rest-big : (b : Bool) (text : List ℕ) → rest (cond b Number.TooBig Number.NotANumber) text ≡ cond (b && all isDigit text) Number.TooBig Number.NotANumber
-unfolding rest
-rest-big false text = refl
-rest-big true text = refl
+-- which fits after at most seven
+pub few-fit : (n v d : ℕ) → n < 8 → v < 10 ^ n → d < 10 → v * 10 + d < 2 ^ 64
+few-fit n v d h l s =
+    let most : 10 ^ n ≤ 10 ^ 7 = pow-le-pow-right {n = 10} (omega arith) {i = n} {j = 7} (omega arith) in
+    omega (arith, most, l, s)
 
-rest-more : (n : Number) (d : ℕ) (text : List ℕ) → rest (moreOf n d) text ≡ rest n (d ∷ text)
-unfolding rest moreOf all digitsFrom
-rest-more (Number.Value v) d text = rest-value (isDigit d) (v * 10 + (d - 48)) text
-rest-more Number.TooBig d text = rest-big (isDigit d) text
-rest-more Number.NotANumber d text = refl
+-- digits after digits
+pub digits-append : (ds es : List ℕ) (a : ℕ) → digitsFrom a (ds ++ es) ≡ digitsFrom (digitsFrom a ds) es
+unfolding digitsFrom
+digits-append [] es a = refl
+digits-append (d ∷ ds) es a = digits-append ds es (a * 10 + (d - 48))
 
--- a byte read is no longer left
-pub rest-next : (n : Number) (text : List ℕ) (i : ℕ) → i < length text → rest (moreOf n (getD text i 0)) (drop (i + 1) text) ≡ rest n (drop i text)
-rest-next n text i h = rw (add-one, drop-cons text i 0 h) (rest-more n (getD text i 0) (drop (suc i) text))
+-- all of them are digits when those of both are
+pub all-append : (ds es : List ℕ) → all isDigit (ds ++ es) ≡ all isDigit ds && all isDigit es
+unfolding all
+all-append [] es = refl
+all-append (d ∷ ds) es = rw (all-append ds es) (sym (and-assoc (isDigit d) (all isDigit ds) (all isDigit es)))
 
--- with nothing left, what is read so far is the answer
-done-value : (b : Bool) (v : ℕ) → rest (cond b (capped v) Number.NotANumber) [] ≡ cond b (capped v) Number.NotANumber
-unfolding rest all digitsFrom
-done-value false v = refl
-done-value true v = elim (decLt v (2 ^ 64)) [ yes h ↦ rw (in-range v h) (in-range v h) | no h ↦ rw (too-big v (omega arith)) ]
+-- ---- a part of the text
 
-done-big : (b : Bool) → rest (cond b Number.TooBig Number.NotANumber) [] ≡ cond b Number.TooBig Number.NotANumber
-unfolding rest all
-done-big false = refl
-done-big true = refl
+-- a part is its two halves
+part-halves : (m : ℕ) (text : List ℕ) (i : ℕ) → part (m + m) text i ≡ part m text i ++ part m text (i + m)
+unfolding part
+part-halves m text i = rw (take-add m m (drop i text), drop-drop m i text)
 
-pub rest-done : (n : Number) (d : ℕ) → rest (moreOf n d) [] ≡ moreOf n d
-unfolding moreOf rest
-rest-done (Number.Value v) d = done-value (isDigit d) (v * 10 + (d - 48))
-rest-done Number.TooBig d = done-big (isDigit d)
-rest-done Number.NotANumber d = refl
+-- its bytes are digits when those of both halves are
+pub digits-halves : (m : ℕ) (text : List ℕ) (i : ℕ) → all isDigit (part (m + m) text i) ≡ all isDigit (part m text i) && all isDigit (part m text (i + m))
+digits-halves m text i = rw (part-halves m text i) (all-append (part m text i) (part m text (i + m)))
 
--- ---- what `read_number` tests
+-- the value of m digits is below ten to the power of m
+pub value-below : (m : ℕ) (text : List ℕ) (i : ℕ) → i + m ≤ length text → all isDigit (part m text i) ≡ true → digitsFrom 0 (part m text i) < 10 ^ m
+value-below m text i l h = rw (length-part m text i l) at (digits-below (part m text i) h)
 
-pub number-empty : (text : List ℕ) → length text ≡ 0 → Number.NotANumber ≡ numberOf text
-unfolding numberOf
-number-empty [] h = refl
-number-empty (d ∷ ds) h = absurd (omega arith)
+-- what the value of a part comes from, where all its bytes are digits
+pub record Halves (m : ℕ) (text : List ℕ) (i : ℕ) : Type 0 where
+  pub left : all isDigit (part m text i) ≡ true
+  pub right : all isDigit (part m text (i + m)) ≡ true
+  pub left-below : digitsFrom 0 (part m text i) < 10 ^ m
+  pub right-below : digitsFrom 0 (part m text (i + m)) < 10 ^ m
+  pub value : digitsFrom 0 (part (m + m) text i) ≡ digitsFrom 0 (part m text i) * 10 ^ m + digitsFrom 0 (part m text (i + m))
 
-pub number-one : (text : List ℕ) → length text ≡ 1 → digitsOf text ≡ numberOf text
-unfolding numberOf
-number-one [] h = absurd (omega arith)
-number-one (d ∷ []) h = refl
-number-one (d ∷ e ∷ ds) h = absurd (omega arith)
+pub halves : (m : ℕ) (text : List ℕ) (i : ℕ) → i + (m + m) ≤ length text → all isDigit (part (m + m) text i) ≡ true → Halves m text i
+halves m text i l h =
+    let both = sym (digits-halves m text i) ∙ h in
+    let first = and-left (all isDigit (part m text i)) (all isDigit (part m text (i + m))) both in
+    let second = and-right (all isDigit (part m text i)) (all isDigit (part m text (i + m))) both in
+    record {
+      left = first;
+      right = second;
+      left-below = value-below m text i (omega arith) first;
+      right-below = value-below m text (i + m) (omega arith) second;
+      value =
+          rw (part-halves m text i, digits-append (part m text i) (part m text (i + m)) 0, digits-after (part m text (i + m)) (digitsFrom 0 (part m text i)))
+          (rw (length-part m text (i + m) (omega arith)));
+    }
 
-pub number-zero : (text : List ℕ) → (length text ≡ 0 → ⊥) → (length text ≡ 1 → ⊥) → getD text 0 0 ≡ 48 → Number.NotANumber ≡ numberOf text
-unfolding numberOf
-number-zero [] h l z = absurd (h refl)
-number-zero (d ∷ []) h l z = absurd (l refl)
-number-zero (d ∷ e ∷ ds) h l z = rw (eq-eqb d 48 z)
+-- a part of one byte
+module _ (text : List ℕ) (i : ℕ) (h : i < length text) where
+  pub digit-part : all isDigit (part 1 text i) ≡ isDigit (getD text i 0)
+  unfolding part all
+  digit-part = rw (drop-cons text i 0 h) (and-true (isDigit (getD text i 0)))
 
-pub number-other : (text : List ℕ) → (length text ≡ 0 → ⊥) → (length text ≡ 1 → ⊥) → (getD text 0 0 ≡ 48 → ⊥) → digitsOf text ≡ numberOf text
-unfolding numberOf
-number-other [] h l z = absurd (h refl)
-number-other (d ∷ []) h l z = absurd (l refl)
-number-other (d ∷ e ∷ ds) h l z = rw (ne-eqb d 48 z)
+  pub value-part : digitsFrom 0 (part 1 text i) ≡ getD text i 0 - 48
+  unfolding part digitsFrom
+  value-part = rw (drop-cons text i 0 h) (omega arith)

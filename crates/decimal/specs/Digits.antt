@@ -1,11 +1,11 @@
--- One step of the decimal reader.
-use Prim.Native.Nat.{ℕ, _+_, _-_, _*_}
+-- The decimal reader, part of the way through a text.
+use Prim.Native.Nat.{ℕ}
 use mathlib.Core.Bool.{cond}
-use Rattle.model.specs.NodeSheet.{isDigit, capped}
+use mathlib.Core.List.{List}
+use Rattle.model.specs.Base.{all}
+use Rattle.model.specs.NodeSheet.{isDigit, digitsFrom, capped}
 use Rattle.model.specs.declared.Number.{Number}
 
--- what is read so far, with one more byte (rules 3.7 and 3.8)
-unfoldable pub moreOf : Number → ℕ → Number
-moreOf (Number.Value v) d = cond (isDigit d) (capped (v * 10 + (d - 48))) Number.NotANumber
-moreOf Number.TooBig d = cond (isDigit d) Number.TooBig Number.NotANumber
-moreOf Number.NotANumber d = Number.NotANumber
+-- what the digits of a text spell after those of value v (rules 3.7 and 3.8)
+unfoldable pub digitsAfter : ℕ → List ℕ → Number
+digitsAfter v text = cond (all isDigit text) (capped (digitsFrom v text)) Number.NotANumber

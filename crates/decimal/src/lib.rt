@@ -1,8 +1,16 @@
 // The decimal reader: what the digits of a text spell.
+use eight::eight_are_digits;
+use eight::eight_digits;
 use model::Number;
 ghost use mathlib.Core.Path.{_≡_};
-ghost use Rattle.model.specs.NodeSheet.{digitsOf, numberOf};
-ghost use Rattle.decimal.specs.Digits.{moreOf};
+ghost use mathlib.Core.Bool.{true};
+ghost use Prim.Native.Nat.{_+_, _-_, _*_, _%_, _^_, _<_};
+ghost use lib.Dec.{leb};
+ghost use lib.ListN.{length};
+ghost use Rattle.model.specs.NodeSheet.{isDigit, digitsOf, numberOf};
+ghost use Rattle.decimal.specs.Digits.{digitsAfter};
+
+mod eight;
 
 const DIGIT_0: u8 = 48;
 
@@ -10,41 +18,89 @@ const DIGIT_9: u8 = 57;
 
 const LARGEST: u64 = 18446744073709551615;
 
-// What is read so far, with one more byte. The test stands before the sum, so that no sum wraps.
-fn more(sofar: Number, byte: u8) -> Number
-    ensures { λ r. ⌜ r ≡ moreOf sofar byte ⌝ }
+const TEN_TO_THE_8: u64 = 100000000;
+
+fn is_digit(byte: u8) -> bool
+    ensures { λ r. ⌜ r ≡ isDigit byte ⌝ }
 {
-    if byte < DIGIT_0 {
-        return Number::NotANumber;
-    }
-    if byte > DIGIT_9 {
-        return Number::NotANumber;
-    }
-    let digit = (byte - DIGIT_0) as u64;
-    match sofar {
-        Number::Value(v) => {
-            if v <= (LARGEST - digit) / 10 {
-                Number::Value(v * 10 + digit)
-            } else {
-                Number::TooBig
-            }
-        }
-        Number::TooBig => Number::TooBig,
-        Number::NotANumber => Number::NotANumber,
-    }
+    (byte >= DIGIT_0) & (byte <= DIGIT_9)
 }
 
-// What the bytes of text spell, zeros in front or not. A number that is too big is still read to its end: a later byte may be no digit.
+fn digit(byte: u8) -> u64
+    requires { ⌜ isDigit byte ≡ true ⌝ }
+    ensures { λ r. ⌜ r ≡ byte - 48 ⌝ }
+{
+    byte as u64 - DIGIT_0 as u64
+}
+
+// Whether eight digits of value d after those of value a make a number that is too big. The sum is made only when this says no, so that it never wraps.
+fn is_too_big(a: u64, d: u64) -> bool
+    requires { ⌜ d < 10 ^ 8 ⌝ }
+    ensures { λ r. ⌜ r ≡ leb (2 ^ 64) (a * 10 ^ 8 + d) ⌝ }
+{
+    if a < LARGEST / TEN_TO_THE_8 {
+        return false;
+    }
+    if a > LARGEST / TEN_TO_THE_8 {
+        return true;
+    }
+    d > LARGEST % TEN_TO_THE_8
+}
+
+// What text makes of a number that is too big, as 2^64 is: digits leave it so, any other byte makes it no number.
+fn big_by_eights(text: &[u8]) -> Number
+    requires { ⌜ length (now text) % 8 ≡ 0 ⌝ }
+    ensures { λ r. ⌜ r ≡ digitsAfter (2 ^ 64) (now (text .entry)) ⌝ }
+{
+    let mut at = 0;
+    while at < text.len() {
+        if !eight_are_digits(text, at) {
+            return Number::NotANumber;
+        }
+        at += 8;
+    }
+    Number::TooBig
+}
+
+// What text makes of a number of value a. Once that is too big, only what is no digit matters.
+fn by_eights(a: u64, text: &[u8]) -> Number
+    requires { ⌜ length (now text) % 8 ≡ 0 ⌝ }
+    ensures { λ r. ⌜ r ≡ digitsAfter a (now (text .entry)) ⌝ }
+{
+    let mut v = a;
+    let mut i = 0;
+    while i < text.len() {
+        if !eight_are_digits(text, i) {
+            return Number::NotANumber;
+        }
+        let d = eight_digits(text, i);
+        if is_too_big(v, d) {
+            return big_by_eights(&text[i..]);
+        }
+        v = v * TEN_TO_THE_8 + d;
+        i += 8;
+    }
+    Number::Value(v)
+}
+
+// What the bytes of text spell, zeros in front or not. The bytes that make no whole eight are read first, one by one: they can't be too big, and the eights end with
+// the text.
 fn read_digits(text: &[u8]) -> Number
     ensures { λ r. ⌜ r ≡ digitsOf (now (text .entry)) ⌝ }
 {
-    let mut sofar = Number::Value(0);
+    let ones = text.len() % 8;
+    let mut v = 0;
     let mut i = 0;
-    while i < text.len() {
-        sofar = more(sofar, text[i]);
+    while i < ones {
+        let byte = text[i];
+        if !is_digit(byte) {
+            return Number::NotANumber;
+        }
+        let d = digit(byte);
+        v = v * 10 + d;
         i += 1;
     }
-    sofar
+    by_eights(v, &text[i..])
 }
 
 // The number that text spells, at any length.

@@ -18,12 +18,12 @@ pub use opening::kh_open;
 pub use turning::kh_turn;
 
 // major * 10000 + minor * 100 + patch
-const VERSION: u32 = 400;
+const VERSION: u32 = 401;
 
 // Which version the archive is.
 #[no_mangle]
 pub extern "C" fn kh_version() -> u32
-    ensures { λ n. ⌜ n ≡ 400 ⌝ }
+    ensures { λ n. ⌜ n ≡ 401 ⌝ }
 {
     VERSION
 }

@@ -1,15 +1,20 @@
-//! The benchmark: the archive's calls and the second program's on full rings of reads.
+//! The benchmark: the archive's calls and the second program's, on full rings of reads and on node
+//! sheets with numbers.
 //!
 //! - `bench times`: nanoseconds a request of both programs, over many runs of `bench sample LOAD`.
+//! - `bench numbers`: nanoseconds an opening, over many runs of `bench sample DIGITS`.
 //! - `bench memory`: what the host lends, and the stack of a call.
 //! - `bench rounds archive|metered|second LOAD ROUNDS`: rounds of one program, to count its
 //!   instructions; `metered` is the archive with a meter to each port.
+//! - `bench rounds archive DIGITS ROUNDS`: rounds of eight openings, likewise.
 //!
 //! LOAD is SEGMENTS PORTS LAYOUT, where the layout of the guests is `64-bit`, `32-bit`, or `both` by
-//! turns. `tests/bench` runs all of it.
+//! turns. DIGITS is how many the number of sectors has. `tests/bench` runs all of it.
 
 mod load;
+mod numbers;
 mod programs;
+mod samples;
 #[allow(unsafe_code)]
 mod stack;
 mod times;
@@ -23,7 +28,10 @@ fn main() {
     match arguments[..] {
         ["times"] => times::print(),
         ["sample", segments, ports, layout] => times::sample(load(segments, ports, layout)),
+        ["numbers"] => numbers::print(),
+        ["sample", digits] => numbers::sample(number(digits)),
         ["memory"] => stack::print(),
+        ["rounds", "archive", digits, rounds] => numbers::run(number(digits), number(rounds)),
         ["rounds", program, segments, ports, layout, rounds] => {
             let (load, rounds) = (load(segments, ports, layout), number(rounds));
             match program {
@@ -34,7 +42,7 @@ fn main() {
             }
         }
         _ => panic!(
-            "times, sample LOAD, memory, or rounds archive|metered|second LOAD ROUNDS; LOAD is SEGMENTS PORTS LAYOUT"
+            "times, numbers, memory, sample LOAD|DIGITS, rounds archive|metered|second LOAD ROUNDS, or rounds archive DIGITS ROUNDS; LOAD is SEGMENTS PORTS LAYOUT"
         ),
     }
 }

@@ -8,7 +8,7 @@ use kernelharp::{Completion, Memory, Meter};
 use second::{Backend, Plan, Status, Turned};
 
 /// What a call gives that was done.
-const DONE: u32 = 0;
+pub const DONE: u32 = 0;
 /// A status without its sign.
 const OKAY: u64 = Status::Okay as u64;
 
@@ -178,6 +178,11 @@ impl<P: Program> Bench<P> {
 
     pub fn refill(&mut self) {
         self.lent.refill();
+    }
+
+    /// How many requests a round has.
+    pub fn requests(&self) -> usize {
+        self.named.len()
     }
 
     /// Starts every request.

@@ -7,7 +7,7 @@ mod sheets;
 mod turns;
 
 use self::classes::expected_classes;
-use self::sheets::{opened_class, sheet_faults};
+use self::sheets::{opened_classes, sheet_faults};
 use crate::{Buffer, Write};
 use history::{Event, History, State};
 use kernelharp::layout::{
@@ -174,7 +174,9 @@ impl Census {
             return self.note_refused_open(history, port, sheet, code);
         }
         self.tick("open done");
-        self.tick(&opened_class(sheet));
+        for class in opened_classes(sheet) {
+            self.tick(&class);
+        }
         if let Ok(disk) = read_sheet(sheet) {
             self.tick(if disk.writable {
                 "open done, mode w"

@@ -97,7 +97,8 @@ fn sectors(random: &mut Random) -> u64 {
         0 => random.pick(&[0, 1, 7, 8]),
         1 => u64::MAX,
         2 => u64::MAX - random.below(100),
-        3 => random.word(),
+        // Of any number of digits.
+        3 => random.word() >> random.index(64),
         4..=6 => 88 + random.below(8),
         7..=10 => 2008,
         _ => 100 + random.below(1 << 24),
@@ -105,11 +106,12 @@ fn sectors(random: &mut Random) -> u64 {
 }
 
 fn damage_entries(random: &mut Random, entries: &mut Vec<Entry>) {
-    match random.index(8) {
+    match random.index(9) {
         0 => damage_node(random, entries),
         1..=3 => spoil_text(random, entries),
         4 | 5 => spoil_number(random, entries),
-        6 => {
+        6 => set_body(entries, 7, &any_digits(random)),
+        7 => {
             let missing = random.pick(&[1, 6, 7]);
             entries.retain(|entry| entry.node != missing);
         }
@@ -216,6 +218,42 @@ fn spoil_number(random: &mut Random, entries: &mut Vec<Entry>) {
         random.pick(texts)
     };
     set_body(entries, node, text.as_bytes());
+}
+
+/// Digits of any length up to 40, for a reader of several a step: a number, too great or not, or none
+/// for a leading zero or some other byte.
+fn any_digits(random: &mut Random) -> Vec<u8> {
+    if random.chance(20) {
+        let around = u128::from(u64::MAX - random.below(500)) + u128::from(random.below(500));
+        return around.to_string().into_bytes();
+    }
+    // Often whole eights.
+    let digits = match random.index(3) {
+        0 => random.pick(&[8, 16, 24]),
+        _ => 1 + random.index(40),
+    };
+    let mut text: Vec<u8> = (0..digits).map(|_| random.pick(b"0123456789")).collect();
+    text[0] = random.pick(b"123456789");
+    match random.index(5) {
+        0 => text[..1 + random.index(digits)].fill(b'0'),
+        1 | 2 => {
+            for _ in 0..1 + random.index(2) {
+                let place = random.index(digits);
+                text[place] = other_byte(random, text[place]);
+            }
+        }
+        _ => {}
+    }
+    text
+}
+
+/// In place of a digit: a neighbour of the digits, one with a bit of its upper half changed, or any byte.
+fn other_byte(random: &mut Random, digit: u8) -> u8 {
+    match random.index(3) {
+        0 => random.pick(b"/:"),
+        1 => digit ^ random.pick(&[0x10, 0x20, 0x40, 0x80]),
+        _ => random.byte(),
+    }
 }
 
 /// Sets a node's body, adding the node in its place when it is absent.

@@ -1,7 +1,7 @@
 -- `decimal::read_number` meets its contract: a law for each way out. Assumes nothing.
 use borrow.Author.Needs.{needs}
 use mathlib.Core.Path.{_∙_}
-use Rattle.decimal.proofs.Digits.{number-empty, number-one, number-zero, number-other}
+use Rattle.decimal.proofs.Reading.{number-empty, number-one, number-zero, number-other}
 use Rattle.decimal.proofs.read_number.Statement.{statement}
 use Rattle.decimal.proofs.read_number.Tie as tie
 

@@ -1,4 +1,6 @@
-//! A closer word on sheets: why one was refused, and by which text another's layout was chosen.
+//! A closer word on sheets: why one was refused, and of one that opened a port, by which text its layout
+//! was chosen and how long its sectors' number is. A reader of numbers may take eight digits a step, so
+//! lengths and places are told apart by eights.
 
 use crate::sheets::NEAR_PROTOCOLS;
 use second::{read_sheet, Refusal};
@@ -9,8 +11,14 @@ pub const TEXT: u32 = Refusal::SheetText as u32;
 pub const NUMBER: u32 = Refusal::SheetNumber as u32;
 const MISSING: u32 = Refusal::SheetMissing as u32;
 
+/// The node of the sectors.
+const SECTORS: u8 = 7;
+
 /// The node of the protocol.
 const PROTOCOL: u8 = 8;
+
+/// A number of more digits is above 2^64 - 1.
+const MOST_DIGITS: usize = 20;
 
 /// What was wrong with a sheet, where the number leaves it open.
 pub fn sheet_faults(sheet: &[u8], code: u32) -> Vec<String> {
@@ -80,7 +88,7 @@ fn shape_fault(sheet: &[u8]) -> &'static str {
 }
 
 /// Which body a sheet was refused for: the first that is refused so in a sheet of its own. Of the
-/// protocol, also by which text.
+/// sectors, also for what in their text, and of the protocol, by which text.
 fn body_faults(sheet: &[u8], code: u32) -> Vec<String> {
     let at_fault = |(line, body): &(&[u8], &[u8])| {
         let alone = [&[1], *line, *body].concat();
@@ -93,8 +101,41 @@ fn body_faults(sheet: &[u8], code: u32) -> Vec<String> {
         // Any other text is noise, and of no class.
         line[0] == PROTOCOL && text.as_bytes() == body
     });
+    let digits = (line[0] == SECTORS).then(|| sectors_fault(code, body));
     let class = body_class(code, line[0]);
-    near.map(protocol_fault).chain([class]).collect()
+    let closer = near.map(protocol_fault).chain(digits.map(String::from));
+    closer.chain([class]).collect()
+}
+
+/// What a text of node 7 was refused for: its length as a number, its first byte that is no digit, or a
+/// zero before others.
+fn sectors_fault(code: u32, body: &[u8]) -> &'static str {
+    if code == NUMBER {
+        return match body.len() {
+            ..21 => "sheet refused 14, node 7, 20 digits",
+            21..24 => "sheet refused 14, node 7, 21 to 23 digits",
+            24 => "sheet refused 14, node 7, 24 digits",
+            _ => "sheet refused 14, node 7, more digits",
+        };
+    }
+    if let Some(place) = body.iter().position(|byte| !byte.is_ascii_digit()) {
+        if place > MOST_DIGITS {
+            return "sheet refused 13, node 7, wrong byte behind a number too great";
+        }
+        // The whole eights that end the text.
+        return match place.checked_sub(body.len() % 8).map(|place| place / 8) {
+            None => "sheet refused 13, node 7, wrong byte before the eights",
+            Some(0) => "sheet refused 13, node 7, wrong byte in the first eight",
+            Some(1) => "sheet refused 13, node 7, wrong byte in the second eight",
+            Some(_) => "sheet refused 13, node 7, wrong byte in a later eight",
+        };
+    }
+    match body.len() {
+        0 => "sheet refused 13, node 7, no byte",
+        1..8 => "sheet refused 13, node 7, leading zero, below 8 digits",
+        8 => "sheet refused 13, node 7, leading zero, 8 digits",
+        _ => "sheet refused 13, node 7, leading zero, above 8 digits",
+    }
 }
 
 /// The class of a sheet that is refused for a node's body.
@@ -107,14 +148,26 @@ pub fn protocol_fault(text: &str) -> String {
     format!("{}: {text:?}", body_class(TEXT, PROTOCOL))
 }
 
-/// The class of a sheet that opened a port, by its node 8.
-pub fn opened_class(sheet: &[u8]) -> String {
-    let protocol = entries(sheet).find(|(line, _)| line[0] == PROTOCOL);
-    let text = protocol.map(|(_, body)| String::from_utf8_lossy(body).into_owned());
-    opened_by(text.as_deref())
+/// The classes of a sheet that opened a port, by its nodes 7 and 8.
+pub fn opened_classes(sheet: &[u8]) -> Vec<String> {
+    let body_of = |node| entries(sheet).find_map(|(line, body)| (line[0] == node).then_some(body));
+    let sectors = body_of(SECTORS).map(|body| sectors_taken(body).into());
+    let protocol = body_of(PROTOCOL).map(String::from_utf8_lossy);
+    let protocol = opened_by(protocol.as_deref());
+    sectors.into_iter().chain([protocol]).collect()
 }
 
-/// The same, by the node's text or its absence.
+fn sectors_taken(body: &[u8]) -> &'static str {
+    match body.len() {
+        ..8 => "open done, sectors of 1 to 7 digits",
+        8 => "open done, sectors of 8 digits",
+        9..16 => "open done, sectors of 9 to 15 digits",
+        16 => "open done, sectors of 16 digits",
+        _ => "open done, sectors of 17 to 20 digits",
+    }
+}
+
+/// The class of a sheet that opened a port, by the text of node 8 or its absence.
 pub fn opened_by(protocol: Option<&str>) -> String {
     format!("open done, protocol {}", protocol.unwrap_or("absent"))
 }

@@ -1,0 +1,88 @@
+//! Samples: both programs in one process, in alternating rounds, over several processes.
+//!
+//! A call's time differs from one run of the same program to the next by more than from round to
+//! round. So the rounds are spread over several processes. Each has one load alone, for in a mixture
+//! the second program loses more than the archive; the loads' processes take turns, so that what else
+//! the machine does meets all loads alike.
+
+use std::process::Command;
+
+/// How many processes a load has.
+const PROCESSES: usize = 25;
+
+/// A program that does a round, and gives the nanoseconds of a call in it: one number or several.
+pub trait Timed<const CELLS: usize> {
+    fn round(&mut self) -> [f64; CELLS];
+}
+
+fn median(mut values: Vec<f64>) -> f64 {
+    values.sort_by(f64::total_cmp);
+    values[values.len() / 2]
+}
+
+/// The median of each column.
+fn medians<R: AsRef<[f64]>>(rows: &[R]) -> Vec<f64> {
+    let column = |cell: usize| rows.iter().map(move |row| row.as_ref()[cell]);
+    let cells = 0..rows[0].as_ref().len();
+    cells.map(|cell| median(column(cell).collect())).collect()
+}
+
+/// One process: the archive's medians, then the second program's, as a line of numbers. A tenth of
+/// the rounds come before those that count.
+pub fn sample<A: Timed<CELLS>, S: Timed<CELLS>, const CELLS: usize>(
+    mut archive: A,
+    mut second: S,
+    rounds: usize,
+    agree: impl Fn(&A, &S) -> bool,
+) {
+    let (mut ours, mut other) = (Vec::new(), Vec::new());
+    let warm_up = rounds / 10;
+    for number in 0..warm_up + rounds {
+        // Each goes first in every other round.
+        if number % 2 == 0 {
+            ours.push(archive.round());
+            other.push(second.round());
+        } else {
+            other.push(second.round());
+            ours.push(archive.round());
+        }
+        assert!(agree(&archive, &second), "both did the same");
+    }
+    let medians = [ours, other].map(|samples| medians(&samples[warm_up..]));
+    let cells: Vec<String> = medians.iter().flatten().map(f64::to_string).collect();
+    println!("{}", cells.join(" "));
+}
+
+/// What another process prints that samples a load.
+fn other_process(load: &[String]) -> Vec<f64> {
+    let program = std::env::current_exe().expect("the path of this program");
+    let mut sample = Command::new(program);
+    let output = sample.arg("sample").args(load).output();
+    let output = output.expect("this program once more");
+    assert!(output.status.success(), "a sample: {output:?}");
+    let line = String::from_utf8(output.stdout).expect("a line of numbers");
+    let cells = line.split_whitespace();
+    cells.map(|cell| cell.parse().expect("a number")).collect()
+}
+
+/// A line to a load, which is given by the words that name it: the medians over the processes, the
+/// ratio of both programs' last cells, and the lowest and the highest ratio of a single process.
+pub fn print_lines<const WORDS: usize, const LOADS: usize>(loads: [[String; WORDS]; LOADS]) {
+    let processes = 0..PROCESSES;
+    let samples: Vec<_> = processes
+        .map(|_| loads.each_ref().map(|load| other_process(load)))
+        .collect();
+    for (index, load) in loads.iter().enumerate() {
+        let rows: Vec<&Vec<f64>> = samples.iter().map(|sample| &sample[index]).collect();
+        let ratio = |cells: &[f64]| cells[cells.len() / 2 - 1] / cells[cells.len() - 1];
+        let ratios = || rows.iter().map(|row| ratio(row));
+        let (lowest, highest) = (
+            ratios().fold(f64::MAX, f64::min),
+            ratios().fold(0.0, f64::max),
+        );
+        let medians = medians(&rows);
+        let cells: Vec<String> = medians.iter().map(|cell| format!("{cell:.1}")).collect();
+        let (load, cells, ratio) = (load.join(" | "), cells.join(" | "), ratio(&medians));
+        println!("| {load} | {cells} | {ratio:.2} | {lowest:.2} to {highest:.2} |");
+    }
+}
