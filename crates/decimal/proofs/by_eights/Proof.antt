@@ -69,17 +69,14 @@ returns-2 c =
     let left : l .i + 8 ≤ length s = omega (arith, e .before .before .pre, l .inv .1) in
     c .big-by-eights .ensures ∙ rw (rest-part s (l .i)) (sym (read-too-big 8 s (l .i) left b (l .v) big) ∙ l .inv .2)
 
-mul-v : tie.Need-mul-v Inv-loop μ-loop
-mul-v c =
-    let l = c .before .before .before .before .before .before .loop in
-    let r = c .before .before .eight-digits .result in
-    record { fits = omega (arith, leb-false (2 ^ 64) (l .v * 100000000 + r) (sym (c .before .is-too-big .ensures) ∙ c .if2 .left)) }
-
 add-v : tie.Need-add-v Inv-loop μ-loop
 add-v c =
     let l = c .before .before .before .before .before .before .loop in
     let r = c .before .before .eight-digits .result in
-    record { fits = omega (arith, leb-false (2 ^ 64) (l .v * 100000000 + r) (sym (c .before .is-too-big .ensures) ∙ c .if2 .left)) }
+    record { fits = leb-false (2 ^ 64) (l .v * 10 ^ 8 + r) (sym (c .before .is-too-big .ensures) ∙ c .if2 .left) }
+
+mul-v : tie.Need-mul-v Inv-loop μ-loop
+mul-v c = record { fits = omega (arith, add-v c .fits) }
 
 add-i : tie.Need-add-i Inv-loop μ-loop
 add-i c = search needs
@@ -96,8 +93,7 @@ loop-again c =
     let s = e .before .before .args .text .now in
     let b = sym (d .eight-are-digits .ensures) ∙ not-false (d .eight-are-digits .result) (f .before .before .if1 .left) in
     let left : l .i + 8 ≤ length s = omega (arith, e .before .before .pre, l .inv .1) in
-    let fit = leb-false (2 ^ 64) (l .v * 100000000 + f .before .eight-digits .result) (sym (f .is-too-big .ensures) ∙ c .if2 .left) in
-    (left, omega (arith, l .inv .1), rw (f .before .eight-digits .ensures) (sym (read-several 8 s (l .i) left b (l .v)) ∙ l .inv .2), omega (arith, fit))
+    (left, omega (arith, l .inv .1), rw (f .before .eight-digits .ensures) (sym (read-several 8 s (l .i) left b (l .v)) ∙ l .inv .2), add-v c .fits)
 
 returns-3 : tie.Need-returns-3 Inv-loop μ-loop
 returns-3 c =

@@ -37,15 +37,6 @@ returns c =
 digit-requires : tie.Need-digit-requires Inv-loop μ-loop
 digit-requires c κs = sym (c .before .is-digit .ensures) ∙ not-false (c .before .is-digit .result) (c .if1 .left)
 
-mul-v : tie.Need-mul-v Inv-loop μ-loop
-mul-v c =
-    let d = c .before .before in
-    let e = d .before .before .before in
-    let l = e .loop in
-    let b = sym (d .is-digit .ensures) ∙ not-false (d .is-digit .result) (c .before .if1 .left) in
-    let below : c .digit .result < 10 = rw (c .digit .ensures) (digit-below (getD (e .before .before .args .text .now) (l .i) 0) b) in
-    record { fits = omega (arith, few-fit (l .i) (l .v) (c .digit .result) (omega (arith, l .inv .0)) (l .inv .1) below) }
-
 add-v : tie.Need-add-v Inv-loop μ-loop
 add-v c =
     let d = c .before .before in
@@ -53,7 +44,10 @@ add-v c =
     let l = e .loop in
     let b = sym (d .is-digit .ensures) ∙ not-false (d .is-digit .result) (c .before .if1 .left) in
     let below : c .digit .result < 10 = rw (c .digit .ensures) (digit-below (getD (e .before .before .args .text .now) (l .i) 0) b) in
-    record { fits = omega (arith, few-fit (l .i) (l .v) (c .digit .result) (omega (arith, l .inv .0)) (l .inv .1) below) }
+    record { fits = few-fit (l .i) (l .v) (c .digit .result) (omega (arith, l .inv .0)) (l .inv .1) below }
+
+mul-v : tie.Need-mul-v Inv-loop μ-loop
+mul-v c = record { fits = omega (arith, add-v c .fits) }
 
 add-i : tie.Need-add-i Inv-loop μ-loop
 add-i c = search needs
