@@ -1,23 +1,25 @@
 /*
- * Kernelharp: the request core of a Xen block backend. C99 or later, and C++.
+ * Kernelharp: the request core of a Xen block backend, and the guest's half of its rings. C99 or later, and C++.
  *
- * The host owns all memory and lends it to each call. Nothing is allocated, and nothing is kept between calls but the
- * backend memory and the meters. One backend, one thread at a time, and so with a meter; two backends are two memories
- * and know nothing of each other.
+ * The caller, a host or a guest, owns all memory and lends it to each call. Nothing is allocated, and nothing is kept
+ * between calls but the backend memory, the meters and the guest memory. One backend, one thread at a time, and so with
+ * a meter and a guest; two backends are two memories and know nothing of each other, and so are two guests.
  *
- * Every call on a backend returns 0 when it was done, else the number of a refusal: of those that it lists, the first
- * that applies. A refused call changes no byte behind any pointer, `answer` included. No content of a buffer, no length
- * and no number is an error of the caller: each has its refusal or its answer. The caller's part is that each pointer
- * has as many bytes behind it as its length, its type or its array says, that memory, answers and meters are aligned
- * for uint64_t, and that the buffers of one call don't overlap. A pointer with length 0 may be null.
+ * Every call on a backend or a guest returns 0 when it was done, else the number of a refusal: of those that it lists,
+ * the first that applies. A refused call changes no byte behind any pointer, `answer` included. No content of a buffer,
+ * no length and no number is an error of the caller: each has its refusal or its answer. The caller's part is that each
+ * pointer has as many bytes behind it as its length, its type or its array says, that what consists of words (memory,
+ * requests, answers, meters) is aligned for uint64_t, and that the buffers of one call don't overlap. Rings, pages,
+ * grants and sheets may lie anywhere. A pointer with length 0 may be null.
  *
  * A call sees the rings as they are at that call. Guests may write them between calls; while a call runs they must not,
- * so a host whose guests can do so lends a copy.
+ * so a host whose guests can do so lends a copy. The same holds of a guest's page and its backend.
  *
  * Names. What a call or a word of an answer says is KH_ and its own name (KH_NOT_BUSY, KH_READ_ONLY, KH_STARTED); the
  * Rattle sources have the same names without KH_, the Rust ones as NotBusy, ReadOnly. What is handed in has its kind
- * first (KH_NODE_MODE, KH_GRANT_READ), and so have the places of words (KH_TURN_PORT, KH_DONE_PORT, KH_EXTENT_FRAME).
- * Sizes end in their unit (KH_RING_BYTES), counts are plurals (KH_PORTS), and a page's indices are called as in ring.h.
+ * first (KH_NODE_MODE, KH_GRANT_READ, KH_DISCARD_SECURE), and so have the places of words (KH_TURN_PORT, KH_DONE_PORT,
+ * KH_EXTENT_FRAME, KH_REQUEST_ID). Calls on a guest are kh_guest_ and what they do. Sizes end in their unit
+ * (KH_RING_BYTES), counts are plurals (KH_PORTS), and a page's indices are called as in ring.h.
  */
 #ifndef KERNELHARP_H
 #define KERNELHARP_H
@@ -32,12 +34,14 @@ extern "C" {
 
 /*
  * The version: major * 10000 + minor * 100 + patch. kh_version gives the archive's, kh_memory_words its
- * KH_MEMORY_WORDS. A host asks for both at its start and makes no other call when one of them is not the header's: the
- * header and the archive are then not of one release, or not built for the same memory.
+ * KH_MEMORY_WORDS, kh_guest_words its KH_GUEST_WORDS. A host asks for the first two at its start, a guest for the first
+ * and the last, and makes no other call when one of them is not the header's: the header and the archive are then not
+ * of one release, or not built for the same memory.
  */
-#define KH_VERSION 401 /* 0.4.1 */
+#define KH_VERSION 500 /* 0.5.0 */
 uint32_t kh_version(void);
 uint32_t kh_memory_words(void);
+uint32_t kh_guest_words(void);
 
 /* Sizes of what a host lends. */
 #define KH_PORTS        8     /* ports 0 to 7, one guest disk each */
@@ -47,6 +51,13 @@ uint32_t kh_memory_words(void);
 #define KH_TURN_WORDS   64    /* answer of kh_turn */
 #define KH_DONE_WORDS   4     /* answer of kh_complete */
 
+/* Sizes of what a guest lends, see kh_guest. */
+#define KH_GUEST_PAGE_BYTES 4096 /* its ring page */
+#define KH_GUEST_WORDS      67   /* guest memory, in words of 64 bits */
+#define KH_REQUEST_WORDS    41   /* a request for kh_guest_put */
+#define KH_PUT_WORDS        1    /* answer of kh_guest_put */
+#define KH_COLLECT_WORDS    4    /* answer of kh_guest_collect */
+
 /*
  * A port's ring page: a header of four 32-bit indices, then the slots. Index i lives in slot i modulo KH_SLOTS. A slot
  * has a request, and later a response at its begin; the slot's other bytes stay. How long they are is up to the guest's
@@ -54,9 +65,9 @@ uint32_t kh_memory_words(void);
  */
 #define KH_RING_BYTES       4096
 #define KH_REQ_PROD         0   /* the guest's: requests published */
-#define KH_REQ_EVENT        4   /* ours: the guest notifies when req_prod gets here */
-#define KH_RSP_PROD         8   /* ours: responses published */
-#define KH_RSP_EVENT        12  /* the guest's: we notify when rsp_prod gets here */
+#define KH_REQ_EVENT        4   /* the backend's: the guest notifies when req_prod gets here */
+#define KH_RSP_PROD         8   /* the backend's: responses published */
+#define KH_RSP_EVENT        12  /* the guest's: the backend notifies when rsp_prod gets here */
 #define KH_HEADER_BYTES     64  /* slot s is at KH_HEADER_BYTES + kh_slot_bytes(abi) * s */
 #define KH_SLOTS            32  /* in both layouts */
 #define KH_SLOT_BYTES       112 /* a slot of a 64-bit guest; none is larger */
@@ -111,18 +122,23 @@ enum kh_node {
 
 /* What a call returns. */
 enum kh_refusal {
-    KH_OK = 0,            /* done: no refusal */
-    KH_WRONG_LENGTH = 1,  /* rings or grants of the wrong length (turn, complete) */
-    KH_NO_PORT = 2,       /* a port above 7 (open, close, complete) */
-    KH_NOT_CLOSED = 3,    /* the port is open or broken (open) */
-    KH_IS_CLOSED = 4,     /* the port is closed (close, complete) */
-    KH_IN_FLIGHT = 5,     /* requests in flight (close) */
-    KH_NOT_BUSY = 6,      /* tag above 31, not busy, or busy with another serial (complete) */
-    KH_SHEET_SHAPE = 11,  /* sheet empty, more than 9 entries, a reserved byte not 0, wrong total length (open) */
-    KH_SHEET_NODES = 12,  /* a node 0 or above 9, or no greater than the one before (open) */
-    KH_SHEET_TEXT = 13,   /* nodes 1 to 5 and 8: any other text; 6, 7 and 9: no number (open) */
-    KH_SHEET_NUMBER = 14, /* nodes 6, 7 and 9: a number that is not allowed there (open) */
-    KH_SHEET_MISSING = 15 /* node 1, 6 or 7 missing (open) */
+    KH_OK = 0,              /* done: no refusal */
+    KH_WRONG_LENGTH = 1,    /* rings, grants or page of the wrong length (turn, complete, guest_put, guest_collect) */
+    KH_NO_PORT = 2,         /* a port above 7 (open, close, complete) */
+    KH_NOT_CLOSED = 3,      /* the port is open or broken (open) */
+    KH_IS_CLOSED = 4,       /* the port is closed (close, complete) */
+    KH_IN_FLIGHT = 5,       /* requests in flight (close) */
+    KH_NOT_BUSY = 6,        /* tag above 31, not busy, or busy with another serial (complete) */
+    KH_SHEET_SHAPE = 11,    /* sheet empty, more than 9 entries, a reserved byte not 0, wrong total length (open) */
+    KH_SHEET_NODES = 12,    /* a node 0 or above 9, or no greater than the one before (open) */
+    KH_SHEET_TEXT = 13,     /* nodes 1 to 5 and 8: any other text; 6, 7 and 9: no number (open) */
+    KH_SHEET_NUMBER = 14,   /* nodes 6, 7 and 9: a number that is not allowed there (open) */
+    KH_SHEET_MISSING = 15,  /* node 1, 6 or 7 missing (open) */
+    KH_RING_FULL = 31,      /* 32 requests are outstanding (guest_put) */
+    KH_ID_OUTSTANDING = 32, /* one with that id is outstanding (guest_put) */
+    KH_BAD_REQUEST = 33,    /* it would get reason 21, 25 or 26, or a number doesn't fit its field (guest_put) */
+    KH_BAD_RSP_PROD = 34,   /* rsp_prod is further ahead than there are requests outstanding (guest_collect) */
+    KH_NOT_OUTSTANDING = 35 /* no outstanding request has the response's id and operation (guest_collect) */
 };
 
 /* What a turn did. */
@@ -154,7 +170,8 @@ enum kh_reason {
     KH_UNALIGNED = 29          /* start or count no multiple of sector-size / 512 */
 };
 
-/* A response's status, as on the ring. The answers' words hold its magnitude. */
+/* A response's status, as on the ring. Answers of kh_turn and kh_complete hold its magnitude, those of kh_guest_collect its
+   16 bits: kh_read_collected gives it as a number. */
 enum kh_status { KH_OKAY = 0, KH_ERROR = -1, KH_NOT_SUPPORTED = -2 };
 
 /* The result of kh_complete that gives the status not supported (-EOPNOTSUPP). */
@@ -271,6 +288,80 @@ typedef struct {
  */
 void kh_meter_turn(kh_meter *meter, uint32_t returned, const uint64_t *answer);
 void kh_meter_completion(kh_meter *meter, uint32_t returned, const uint64_t *answer);
+
+/*
+ * The guest's half of a ring: it puts requests into a page of the 64-bit layout, and collects their responses. It knows
+ * nothing of a backend, and a backend nothing of it; both know the page.
+ *
+ * Guest memory has the guest's own two indices, requests put and responses collected, and of each outstanding request
+ * (put, and its response not yet collected) the id and the operation; there are KH_SLOTS of them at most. All zeros are
+ * a fresh guest, which goes with a page of zeros: `static kh_guest guest;` is one. What the words hold is the library's
+ * business.
+ *
+ * The guest never takes req_prod or rsp_event from the page: both are its own.
+ */
+typedef struct {
+    uint64_t words[KH_GUEST_WORDS];
+} kh_guest;
+
+/*
+ * Words of a request for kh_guest_put. Only what the operation uses is looked at:
+ *
+ * - read, write, barrier: id, start, the number of segments and the segments below it; a barrier with none, no start
+ * - flush: id, and the number of segments, which is 0
+ * - discard: id, start, the flag's bit 0 and the sectors
+ */
+enum kh_request_word {
+    KH_REQUEST_OPERATION = 0, /* enum kh_operation */
+    KH_REQUEST_ID = 1,        /* the caller's choice; comes back with the response */
+    KH_REQUEST_START = 2,     /* first sector on the disk */
+    KH_REQUEST_SEGMENT_COUNT = 3,
+    KH_REQUEST_FLAG = 4,    /* of a discard: KH_DISCARD_SECURE or not; its other bits don't count */
+    KH_REQUEST_SECTORS = 5, /* of a discard */
+    KH_REQUEST_SEGMENTS = 8 /* segment i at KH_REQUEST_SEGMENTS + KH_SEGMENT_WORDS * i, i < KH_SEGMENTS */
+};
+#define KH_SEGMENTS       11 /* segments that a request can have */
+#define KH_DISCARD_SECURE 1  /* bit 0 of the flag */
+
+/* Words of a segment. */
+enum kh_segment_word { KH_SEGMENT_FRAME = 0, KH_SEGMENT_FIRST = 1, KH_SEGMENT_LAST = 2 };
+#define KH_SEGMENT_WORDS 3
+
+/* Words of kh_guest_put's answer. */
+enum kh_put_word {
+    KH_PUT_NOTIFY = 0 /* 0 or 1 */
+};
+
+/* Words of kh_guest_collect's answer. */
+enum kh_collect_word {
+    KH_COLLECT_FOUND = 0, /* 1: a response; 0: there is none, and all words are 0 */
+    KH_COLLECT_ID = 1,
+    KH_COLLECT_OPERATION = 2,
+    KH_COLLECT_STATUS = 3 /* its 16 bits as they stand in the page: 65535 is -1 */
+};
+
+/*
+ * Puts a request, which is outstanding from then on: all KH_SLOT_BYTES bytes of its slot are written, those that it
+ * doesn't use with zeros, and req_prod becomes the guest's index of the next. No other byte of the page changes.
+ *
+ * `page` is KH_GUEST_PAGE_BYTES long. `request` has KH_REQUEST_WORDS words (kh_write_request writes them from a struct),
+ * `answer` has KH_PUT_WORDS: whether the backend is to be notified, exactly when req_event is the new req_prod.
+ *
+ * Refusals: 1, 31, 32, 33. A request that is put can still be answered with a reason that is up to the disk, 22 to 24
+ * and 27 to 29.
+ */
+uint32_t kh_guest_put(kh_guest *guest, uint8_t *page, size_t page_bytes, const uint64_t *request, uint64_t *answer);
+
+/*
+ * Collects the next response, and its request is outstanding no more; the page stays. When there is none, rsp_event
+ * becomes the guest's index + 1, so that the next response notifies, and that is the only change.
+ *
+ * `page` is KH_GUEST_PAGE_BYTES long. `answer` has KH_COLLECT_WORDS words, and all of them are written (kh_read_collected
+ * gives them as a struct). A response's status and padding are not judged.
+ *
+ * Refusals: 1, 34, 35. A page that is refused with 34 or 35 was written by a backend that doesn't keep to its half.
+ */
+uint32_t kh_guest_collect(kh_guest *guest, uint8_t *page, size_t page_bytes, uint64_t *answer);
 
 /* Whether the bytes are that text. */
 static inline bool kh_is_text(const uint8_t *bytes, size_t count, const char *text) {
@@ -394,6 +485,62 @@ static inline kh_completed kh_read_completion(const uint64_t *answer) {
     return completed;
 }
 
+/* A run of sectors in one frame, for a guest's request. */
+typedef struct {
+    uint32_t frame; /* grant reference */
+    uint32_t first; /* first sector in the frame, 0 to 7 */
+    uint32_t last;  /* last one, first to 7 */
+} kh_segment;
+
+/* A request for kh_guest_put. What its operation doesn't use may be anything, see enum kh_request_word. */
+typedef struct {
+    uint32_t operation; /* enum kh_operation */
+    uint64_t id;
+    uint64_t start; /* first sector on the disk */
+    uint32_t segment_count;
+    uint32_t flag;    /* of a discard: KH_DISCARD_SECURE or 0 */
+    uint64_t sectors; /* of a discard */
+    kh_segment segments[KH_SEGMENTS];
+} kh_request;
+
+/* kh_guest_collect's answer. */
+typedef struct {
+    bool found;         /* there was a response, else all that follows is 0 */
+    uint64_t id;        /* of the request that it is for, as the next */
+    uint32_t operation; /* enum kh_operation */
+    int16_t status;     /* enum kh_status, or any other number that a backend came up with */
+} kh_collected;
+
+/* A request as the KH_REQUEST_WORDS words of it; all of them are written. */
+static inline void kh_write_request(const kh_request *request, uint64_t *words) {
+    size_t i;
+    for (i = 0; i < KH_REQUEST_SEGMENTS; i++)
+        words[i] = 0;
+    words[KH_REQUEST_OPERATION] = request->operation;
+    words[KH_REQUEST_ID] = request->id;
+    words[KH_REQUEST_START] = request->start;
+    words[KH_REQUEST_SEGMENT_COUNT] = request->segment_count;
+    words[KH_REQUEST_FLAG] = request->flag;
+    words[KH_REQUEST_SECTORS] = request->sectors;
+    for (i = 0; i < KH_SEGMENTS; i++) {
+        uint64_t *segment = words + KH_REQUEST_SEGMENTS + KH_SEGMENT_WORDS * i;
+        segment[KH_SEGMENT_FRAME] = request->segments[i].frame;
+        segment[KH_SEGMENT_FIRST] = request->segments[i].first;
+        segment[KH_SEGMENT_LAST] = request->segments[i].last;
+    }
+}
+
+/* The answer of a collecting that was done, KH_COLLECT_WORDS words. */
+static inline kh_collected kh_read_collected(const uint64_t *answer) {
+    int32_t bits = (int32_t)(answer[KH_COLLECT_STATUS] & 0xFFFF);
+    kh_collected collected;
+    collected.found = answer[KH_COLLECT_FOUND] != 0;
+    collected.id = answer[KH_COLLECT_ID];
+    collected.operation = (uint32_t)answer[KH_COLLECT_OPERATION];
+    collected.status = (int16_t)(bits < 0x8000 ? bits : bits - 0x10000);
+    return collected;
+}
+
 /* What the numbers above say of each other, checked by whatever compiles this. */
 #if defined(__cplusplus) && __cplusplus >= 201103L
 #define KH_HOLDS(name, fact) static_assert(fact, #name)
@@ -408,11 +555,16 @@ KH_HOLDS(a_meter_is_four_words, sizeof(kh_meter) == 32 && offsetof(kh_meter, not
 KH_HOLDS(rings_are_a_page_a_port, KH_RINGS_BYTES == KH_PORTS * KH_RING_BYTES);
 KH_HOLDS(grants_are_a_share_a_port, KH_GRANTS_BYTES == KH_PORTS * KH_PORT_GRANTS);
 KH_HOLDS(slots_fit_the_page, KH_HEADER_BYTES + KH_SLOTS * KH_SLOT_BYTES <= KH_RING_BYTES);
+KH_HOLDS(slots_fit_the_guests_page, KH_HEADER_BYTES + KH_SLOTS * KH_SLOT_BYTES <= KH_GUEST_PAGE_BYTES);
 KH_HOLDS(a_response_fits_its_slot, KH_RESPONSE_BYTES <= KH_SLOT_BYTES);
 KH_HOLDS(no_slot_is_larger, KH_SLOT32_BYTES <= KH_SLOT_BYTES);
 KH_HOLDS(no_response_is_larger, KH_RESPONSE32_BYTES <= KH_RESPONSE_BYTES);
 KH_HOLDS(both_keep_as_much_of_a_slot, KH_SLOT32_BYTES - KH_RESPONSE32_BYTES == KH_SLOT_BYTES - KH_RESPONSE_BYTES);
 KH_HOLDS(extents_fit_the_answer, KH_TURN_EXTENTS + KH_EXTENTS * KH_EXTENT_WORDS <= KH_TURN_WORDS);
+KH_HOLDS(a_guest_is_its_words, sizeof(kh_guest) == 8 * KH_GUEST_WORDS);
+KH_HOLDS(segments_end_the_request, KH_REQUEST_SEGMENTS + KH_SEGMENTS * KH_SEGMENT_WORDS == KH_REQUEST_WORDS);
+KH_HOLDS(every_segment_has_an_extent, KH_SEGMENTS == KH_EXTENTS);
+KH_HOLDS(the_flag_is_bit_0, KH_DISCARD_SECURE == 1);
 #undef KH_HOLDS
 
 #ifdef __cplusplus

@@ -1,6 +1,7 @@
 //! Requests of the tests.
 
 use kernelharp::layout::Abi;
+use kernelharp::words::{request, segment, RequestWords, REQUEST_WORDS};
 
 /// A request to be put into a slot.
 #[derive(Clone)]
@@ -63,5 +64,26 @@ impl Ask {
             place[5] = *last;
         }
         slot
+    }
+
+    /// The request as a guest hands it in. Words that the operation does not use are not zero.
+    pub fn words(&self) -> RequestWords {
+        let mut words = [0xEEEE_EEEE_EEEE_EEEE; REQUEST_WORDS];
+        words[request::OPERATION] = u64::from(self.operation);
+        words[request::ID] = self.id;
+        words[request::START] = self.start;
+        if self.operation == 5 {
+            words[request::FLAG] = u64::from(self.count_or_flag);
+            words[request::SECTORS] = self.discard_count;
+            return words;
+        }
+        words[request::SEGMENT_COUNT] = u64::from(self.count_or_flag);
+        let places = words[request::SEGMENTS..].chunks_exact_mut(segment::WORDS);
+        for (place, (frame, first, last)) in places.zip(&self.segments) {
+            place[segment::FRAME] = u64::from(*frame);
+            place[segment::FIRST] = u64::from(*first);
+            place[segment::LAST] = u64::from(*last);
+        }
+        words
     }
 }

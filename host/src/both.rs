@@ -20,7 +20,7 @@ pub struct Both {
 }
 
 /// The code and words due from the archive where the second program gave this answer.
-fn due<T, const WORDS: usize>(
+pub(crate) fn due<T, const WORDS: usize>(
     answer: &Result<T, Refusal>,
     words: impl FnOnce(&T) -> [u64; WORDS],
 ) -> (u32, [u64; WORDS]) {

@@ -1,24 +1,34 @@
 //! What the tests build: node sheets ([`sheet`]), requests ([`Ask`]), a [`Bench`] with the second
-//! program and the archive side by side ([`Both`]), their hosts' [`Records`], and histories made by
-//! hand ([`Story`]).
+//! program and the archive side by side ([`Both`]), their hosts' [`Records`], their [`Guests`],
+//! histories made by hand ([`Story`]), and the two sides of a ring in steps ([`wakeup`]).
 
 mod ask;
 mod bench;
 mod both;
+mod guests;
+mod hex;
 mod records;
 mod sheets;
 mod story;
+pub mod wakeup;
 
 pub use ask::Ask;
 pub use bench::Bench;
 pub use both::Both;
+pub use guests::Guests;
+pub use hex::bytes;
 pub use records::Records;
 pub use sheets::{
     full_sheet, sheet, sheet_number, usual_sheet, usual_sheet_of, with_node, with_protocol,
 };
 pub use story::{faulty, Checked, Pair, Story};
 
-/// The README's listing, compiled and run with the tests.
+/// The README's listings, compiled and run with the tests.
 #[cfg(doctest)]
 #[doc = include_str!("../../README.md")]
 struct Readme;
+
+/// The Rust listings of docs/GUEST.md, likewise.
+#[cfg(doctest)]
+#[doc = include_str!("../../docs/GUEST.md")]
+struct GuestListings;

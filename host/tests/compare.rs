@@ -7,16 +7,20 @@
 //! are, too, to records of any numbers. The counts of what occurred are printed, and a class that did
 //! not occur fails the test.
 //!
-//! - `KH_CALLS`: how many calls in all, 2,000,000 unless set. With fewer than that the classes are
-//!   printed only.
+//! The guest's half is compared likewise: by itself, on pages that a made-up backend writes, and
+//! together with the backend on one page, where what is claimed of both halves is checked as well.
+//!
+//! - `KH_CALLS`: how many calls of each comparison in all, 2,000,000 unless set. With fewer than that
+//!   the classes are printed only.
 //! - `KH_SEED`: the first list's seed. List i has seed `KH_SEED` + i, and 20,000 calls.
 //!
 //! A failure prints the two settings that run its list again up to the call at fault. More calls of
 //! another seed: `KH_SEED=7 KH_CALLS=50000000 cargo test --release --test compare -- --nocapture`.
 
-use generate::{run, Census, Core, Failure, Report};
-use kernelharp::Memory;
-use second::Backend;
+use generate::{run, run_guests, run_halves, Census, Core, Failure, Report};
+use generate::{GuestCensus, Halves, HalvesReport};
+use kernelharp::{GuestMemory, Memory};
+use second::{Backend, Guest};
 use std::time::Instant;
 
 const SEED: u64 = 20_010_000;
@@ -28,6 +32,25 @@ fn setting(name: &str, usual: u64) -> u64 {
     set.map_or(usual, |text| text.parse().expect("a number"))
 }
 
+/// Runs lists of that many calls in all, by a seed and a number of calls each.
+fn run_lists<T>(
+    usual: u64,
+    mut list: impl FnMut(u64, u64) -> Result<T, Failure>,
+    mut add: impl FnMut(T),
+) -> u64 {
+    let (seed, calls) = (setting("KH_SEED", SEED), setting("KH_CALLS", usual));
+    println!("{calls} calls, seeds from {seed}, lists of {LIST_CALLS}");
+    for number in 0..calls.div_ceil(LIST_CALLS) {
+        let calls = LIST_CALLS.min(calls - LIST_CALLS * number);
+        let report = list(seed.wrapping_add(number), calls).unwrap_or_else(|at| {
+            let again = format!("KH_SEED={} KH_CALLS={}", at.seed, at.number + 1);
+            panic!("program 0 is the archive, 1 the second program\n{at}\nonce more: {again}")
+        });
+        add(report);
+    }
+    calls
+}
+
 /// One list through both; the archive comes first, so the history is its own.
 fn compare(archive: &mut dyn Core, seed: u64, calls: u64) -> Result<Report, Failure> {
     run(&mut [archive, &mut Backend::new()], seed, calls)
@@ -35,24 +58,57 @@ fn compare(archive: &mut dyn Core, seed: u64, calls: u64) -> Result<Report, Fail
 
 #[test]
 fn archive_and_second_program_agree() {
-    let (seed, calls) = (setting("KH_SEED", SEED), setting("KH_CALLS", CALLS));
-    println!("{calls} calls, seeds from {seed}, lists of {LIST_CALLS}");
     let begun = Instant::now();
     let (mut census, mut longest_wait) = (Census::new(), 0);
-    for list in 0..calls.div_ceil(LIST_CALLS) {
-        let calls = LIST_CALLS.min(calls - LIST_CALLS * list);
+    let list = |seed, calls| {
         let mut archive = Memory::new().expect("an archive of this package");
-        let report = compare(&mut archive, seed.wrapping_add(list), calls).unwrap_or_else(|at| {
-            let again = format!("KH_SEED={} KH_CALLS={}", at.seed, at.number + 1);
-            panic!("program 0 is the archive, 1 the second program\n{at}\nonce more: {again}")
-        });
+        compare(&mut archive, seed, calls)
+    };
+    let calls = run_lists(CALLS, list, |report| {
         census.add(&report.census);
         longest_wait = longest_wait.max(report.longest_wait);
-    }
+    });
     print!("{census}");
     println!("longest wait: {longest_wait} turns; {:?}", begun.elapsed());
     let missing = census.missing();
     println!("did not occur: {missing:?}");
     assert!(calls < CALLS || missing.is_empty());
     assert!(calls < CALLS || longest_wait == 7);
+}
+
+#[test]
+fn guests_agree() {
+    let begun = Instant::now();
+    let mut census = GuestCensus::new();
+    let list = |seed, calls| {
+        let mut archive = GuestMemory::new().expect("an archive of this package");
+        run_guests(&mut [&mut archive, &mut Guest::new()], seed, calls)
+    };
+    let calls = run_lists(CALLS, list, |report| census.add(&report));
+    print!("{census}");
+    let missing = census.missing();
+    println!("did not occur: {missing:?}; {:?}", begun.elapsed());
+    assert!(calls < CALLS || missing.is_empty());
+}
+
+#[test]
+fn both_halves_agree() {
+    let begun = Instant::now();
+    let mut report = HalvesReport::new();
+    let list = |seed, calls| {
+        let archive = Halves {
+            backend: &mut Memory::new().expect("an archive of this package"),
+            guest: &mut GuestMemory::new().expect("an archive of this package"),
+        };
+        let second = Halves {
+            backend: &mut Backend::new(),
+            guest: &mut Guest::new(),
+        };
+        run_halves(vec![archive, second], seed, calls)
+    };
+    let calls = run_lists(CALLS, list, |one| report.add(&one));
+    print!("{}", report.tally());
+    let missing = report.missing();
+    println!("did not occur: {missing:?}; {:?}", begun.elapsed());
+    assert!(calls < CALLS || missing.is_empty());
 }

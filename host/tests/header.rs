@@ -1,7 +1,11 @@
 //! The numbers of the Rust package are those of the C header, and so are those of the Rattle sources.
 
-use kernelharp::words::{done, extent, kind, turn, DONE_WORDS, TURN_WORDS};
-use kernelharp::{layout, Abi, Operation, Reason, Refusal, Status, MEMORY_WORDS, VERSION};
+use kernelharp::words::{
+    collect, done, extent, kind, put, request, segment, turn, COLLECT_WORDS, DONE_WORDS, PUT_WORDS,
+    REQUEST_WORDS, TURN_WORDS,
+};
+use kernelharp::{layout, Abi, Operation, Reason, Refusal, Status};
+use kernelharp::{GUEST_WORDS, MEMORY_WORDS, VERSION};
 use std::collections::BTreeMap;
 use std::fmt::Debug;
 
@@ -49,6 +53,15 @@ fn in_c(name: impl Debug) -> String {
     words
 }
 
+/// The header has each of these numbers by its name.
+#[track_caller]
+fn header_has<const COUNT: usize>(due: [(&str, usize); COUNT]) {
+    let header = numbers(HEADER);
+    for (name, number) in due {
+        assert_eq!(header.get(name), Some(&(number as i64)), "{name}");
+    }
+}
+
 /// Both have the same names, each for the same number, and no others.
 #[track_caller]
 fn same_names<T: Debug>(c: Numbers, rust: impl Iterator<Item = (T, i64)>) {
@@ -59,12 +72,13 @@ fn same_names<T: Debug>(c: Numbers, rust: impl Iterator<Item = (T, i64)>) {
 
 #[test]
 fn sizes_and_places() {
-    let header = numbers(HEADER);
-    for (name, number) in [
+    header_has([
         ("KH_VERSION", VERSION as usize),
         ("KH_MEMORY_WORDS", MEMORY_WORDS),
+        ("KH_GUEST_WORDS", GUEST_WORDS),
         ("KH_PORTS", layout::PORTS),
         ("KH_RINGS_BYTES", layout::RINGS_BYTES),
+        ("KH_GUEST_PAGE_BYTES", layout::GUEST_PAGE_BYTES),
         ("KH_GRANTS_BYTES", layout::GRANTS_BYTES),
         ("KH_RING_BYTES", layout::RING_BYTES),
         ("KH_PORT_GRANTS", layout::PORT_GRANTS),
@@ -79,15 +93,13 @@ fn sizes_and_places() {
         ("KH_RESPONSE_BYTES", layout::RESPONSE_BYTES),
         ("KH_RESPONSE32_BYTES", layout::RESPONSE32_BYTES),
         ("KH_EXTENTS", layout::EXTENTS),
-    ] {
-        assert_eq!(header.get(name), Some(&(number as i64)), "{name}");
-    }
+        ("KH_SEGMENTS", layout::SEGMENTS),
+    ]);
 }
 
 #[test]
-fn words_of_the_answers() {
-    let header = numbers(HEADER);
-    for (name, number) in [
+fn words_of_a_backends_answers() {
+    header_has([
         ("KH_TURN_WORDS", TURN_WORDS),
         ("KH_TURN_KIND", turn::KIND),
         ("KH_TURN_PORT", turn::PORT),
@@ -115,9 +127,34 @@ fn words_of_the_answers() {
         ("KH_STARTED", kind::STARTED as usize),
         ("KH_ANSWERED", kind::ANSWERED as usize),
         ("KH_OVERRUN", kind::OVERRUN as usize),
-    ] {
-        assert_eq!(header.get(name), Some(&(number as i64)), "{name}");
-    }
+    ]);
+}
+
+#[test]
+fn words_of_the_guests_half() {
+    header_has([
+        ("KH_REQUEST_WORDS", REQUEST_WORDS),
+        ("KH_REQUEST_OPERATION", request::OPERATION),
+        ("KH_REQUEST_ID", request::ID),
+        ("KH_REQUEST_START", request::START),
+        ("KH_REQUEST_SEGMENT_COUNT", request::SEGMENT_COUNT),
+        ("KH_REQUEST_FLAG", request::FLAG),
+        ("KH_REQUEST_SECTORS", request::SECTORS),
+        ("KH_REQUEST_SEGMENTS", request::SEGMENTS),
+        ("KH_SEGMENT_FRAME", segment::FRAME),
+        ("KH_SEGMENT_FIRST", segment::FIRST),
+        ("KH_SEGMENT_LAST", segment::LAST),
+        ("KH_SEGMENT_WORDS", segment::WORDS),
+        ("KH_PUT_WORDS", PUT_WORDS),
+        ("KH_PUT_NOTIFY", put::NOTIFY),
+        ("KH_COLLECT_WORDS", COLLECT_WORDS),
+        ("KH_COLLECT_FOUND", collect::FOUND),
+        ("KH_COLLECT_ID", collect::ID),
+        ("KH_COLLECT_OPERATION", collect::OPERATION),
+        ("KH_COLLECT_STATUS", collect::STATUS),
+    ]);
+    let last = request::SEGMENTS + layout::SEGMENTS * segment::WORDS;
+    assert_eq!(last, REQUEST_WORDS, "the segments end the request");
 }
 
 #[test]
@@ -194,7 +231,11 @@ fn rattle_refusals_reasons_operations_and_nodes() {
 
 #[test]
 fn rattle_sizes_and_places() {
-    let header = numbers(HEADER);
+    let mut header = numbers(HEADER);
+    // Places of a segment in a slot have these names there, in C its places among a request's words.
+    for name in cases("kh_segment_word").keys() {
+        header.remove(name);
+    }
     let mut met = 0;
     for (source, prefix) in [
         (source!("model/src/buffer"), "KH_"),

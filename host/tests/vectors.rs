@@ -6,7 +6,7 @@ use kernelharp::layout::{read_u64, Abi, HEADER_BYTES, PORT_GRANTS};
 use second::{
     backlog, read_sheet, response_bytes, Backlog, Disk, Layout, Plan, Reason, Status, Turned,
 };
-use tests::{full_sheet, sheet, usual_sheet_of, with_protocol, Ask, Bench};
+use tests::{bytes, full_sheet, sheet, usual_sheet_of, with_protocol, Ask, Bench};
 
 const WORKED: &str = include_str!("../../tests/vectors/worked.txt");
 const SHEETS: &str = include_str!("../../tests/vectors/sheets.txt");
@@ -41,16 +41,6 @@ fn number<T: std::str::FromStr>(word: &str) -> T {
         .unwrap_or_else(|_| panic!("{word} is no number"))
 }
 
-/// Bytes in hex, BYTE*N for a byte N times.
-fn bytes<'a>(words: impl IntoIterator<Item = &'a str>) -> Vec<u8> {
-    let run = |word: &str| {
-        let (byte, times) = word.split_once('*').unwrap_or((word, "1"));
-        let byte = u8::from_str_radix(byte, 16).expect("hex bytes");
-        vec![byte; number(times)]
-    };
-    words.into_iter().flat_map(run).collect()
-}
-
 fn status(word: &str) -> Status {
     match word {
         "0" => Status::Okay,
@@ -79,7 +69,7 @@ fn every_line_is_a_case() {
 #[test]
 fn sheets() {
     for (given, due) in cases("sheet") {
-        let sheet = bytes(given);
+        let sheet = bytes(&given.join(" "));
         let disk = read_sheet(&sheet).expect("a sound sheet");
         let mode = if disk.writable { "w" } else { "r" };
         assert_eq!(due, format!("{mode} {} {}", disk.sector_size, disk.sectors));
@@ -188,7 +178,7 @@ fn responses() {
         let &[bits, id, operation, code] = &given[..] else {
             panic!("four words: {given:?}")
         };
-        let due = bytes(due.split_whitespace());
+        let due = bytes(due);
         let abi = layout(bits);
         let id = u64::from_str_radix(id, 16).expect("a hex id");
         let response = response_bytes(id, number(operation), status(code));
@@ -224,7 +214,7 @@ fn disk_words(disk: &Disk) -> String {
 fn sheet_vectors() {
     for (given, due) in lines(SHEETS) {
         let (name, sheet) = given.split_once(':').expect("a name and a sheet");
-        let sheet = bytes(sheet.split_whitespace());
+        let sheet = bytes(sheet);
         let came = match Bench::new().backend.open(0, &sheet) {
             Ok(()) => disk_words(&read_sheet(&sheet).expect("a sheet that opened a port")),
             Err(refusal) => format!("refused {}", refusal as u32),
@@ -319,10 +309,10 @@ fn request_vectors() {
 fn record_vectors() {
     for (given, due) in lines(RECORDS) {
         let (bits, slot) = given.split_once(':').expect("bits and a slot");
-        let (abi, slot) = (layout(bits), bytes(slot.split_whitespace()));
+        let (abi, slot) = (layout(bits), bytes(slot));
         assert_eq!(slot.len(), abi.slot_bytes(), "{given}");
         let (words, response) = due.split_once(" : ").expect("words and a response");
-        let response = bytes(response.split_whitespace());
+        let response = bytes(response);
         let largest = full_sheet("w", "512", &u64::MAX.to_string());
         let mut bench = Bench::open(&with_protocol(&largest, abi));
         bench.rings[abi.slot_at(0)..][..slot.len()].copy_from_slice(&slot);

@@ -4,14 +4,15 @@
 //! First in lockstep, in every order that their steps can have: without the rules some orders leave
 //! one side asleep for ever, with them none does. Then running freely, with the rules.
 
-use frontend::{EventChannel, Frontend, GuestPage, Request, Segment};
+use frontend::{EventChannel, Frontend, GuestPage, Request};
 use generate::Random;
 use kernelharp::live::{LiveBackend, SharedPage};
-use kernelharp::{Abi, Backend, Plan, Port, Refusal, Sheet, Turn};
-use std::sync::atomic::{fence, AtomicBool, Ordering};
-use std::sync::{Condvar, Mutex};
+use kernelharp::{Abi, Backend, Plan, Port, Segment, Turn};
+use std::sync::atomic::{fence, Ordering};
 use std::thread;
 use std::time::{Duration, Instant};
+use tests::usual_sheet_of;
+use tests::wakeup::{lost, orders, Bells, Lockstep, Side, Word, BOUND};
 
 const READ: u8 = 0;
 
@@ -23,21 +24,6 @@ fn read(id: u64) -> Request {
         last: 0,
     };
     Request::segmented(READ, id, 0, &[segment])
-}
-
-fn sheet(abi: Abi) -> Vec<u8> {
-    let sheet = Sheet {
-        writable: true,
-        sector_size: 512,
-        sectors: 2008,
-        abi,
-        ..Sheet::default()
-    };
-    sheet.bytes()
-}
-
-fn port() -> Result<Port, Refusal> {
-    Port::try_from(0)
 }
 
 /// The two sides of a ring in lockstep. The host goes by the parts of the rules, so that the guest
@@ -52,14 +38,14 @@ struct Pair {
 impl Pair {
     /// Both sides after one request and its response: req_event and rsp_event are behind.
     fn warm() -> Pair {
-        let (page, port, abi) = (GuestPage::new(), port().unwrap(), Abi::default());
+        let (page, port, abi) = (GuestPage::new(), Port::try_from(0).unwrap(), Abi::default());
         let mut pair = Pair {
             frontend: Frontend::new(page, abi),
             backend: Backend::new().unwrap(),
             page: page.shared(abi),
             port,
         };
-        pair.backend.open(port, &sheet(abi)).unwrap();
+        pair.backend.open(port, &usual_sheet_of(abi)).unwrap();
         pair.backend.grants_mut(port)[0] = 2;
         let plan = pair.start(1);
         pair.page
@@ -83,58 +69,6 @@ impl Pair {
         };
         self.page.took_request();
         plan
-    }
-}
-
-#[derive(Clone, Copy, Debug, PartialEq, Eq)]
-enum Side {
-    Guest,
-    Host,
-}
-
-/// Every order of so many steps of each side.
-fn orders(guest: usize, host: usize) -> Vec<Vec<Side>> {
-    if guest == 0 || host == 0 {
-        return vec![[vec![Side::Guest; guest], vec![Side::Host; host]].concat()];
-    }
-    let after = |last, mut earlier: Vec<Vec<Side>>| {
-        earlier.iter_mut().for_each(|order| order.push(last));
-        earlier
-    };
-    let mut all = after(Side::Guest, orders(guest - 1, host));
-    all.extend(after(Side::Host, orders(guest, host - 1)));
-    all
-}
-
-/// Lets two threads take their steps in a given order.
-#[derive(Default)]
-struct Lockstep {
-    taken: Mutex<usize>,
-    moved: Condvar,
-}
-
-impl Lockstep {
-    fn run(
-        order: &[Side],
-        mut guest: impl FnMut(usize) + Send,
-        mut host: impl FnMut(usize) + Send,
-    ) {
-        let lockstep = Lockstep::default();
-        thread::scope(|scope| {
-            scope.spawn(|| lockstep.take_part(order, Side::Guest, &mut guest));
-            scope.spawn(|| lockstep.take_part(order, Side::Host, &mut host));
-        });
-    }
-
-    fn take_part(&self, order: &[Side], side: Side, step: &mut impl FnMut(usize)) {
-        let places = (0..order.len()).filter(|&place| order[place] == side);
-        for (number, place) in places.enumerate() {
-            let taken = self.taken.lock().unwrap();
-            let mut taken = self.moved.wait_while(taken, |it| *it != place).unwrap();
-            step(number);
-            *taken += 1;
-            self.moved.notify_all();
-        }
     }
 }
 
@@ -170,13 +104,6 @@ fn request_is_lost(order: &[Side], looks: usize) -> bool {
     };
     Lockstep::run(order, guest, host);
     !served && !to_host.heard()
-}
-
-/// Whose word the host notifies by.
-#[derive(Clone, Copy, PartialEq, Eq)]
-enum Word {
-    OfTheCall,
-    OfTheSecondLook,
 }
 
 /// A guest goes to sleep while the host gives its response. Says whether the guest sleeps over a
@@ -216,12 +143,6 @@ fn complete(backend: &mut Backend, plan: &Plan) -> bool {
     done.unwrap().notify
 }
 
-/// How many of the orders lose a wake-up, and of how many.
-fn lost(orders: &[Vec<Side>], lost: impl Fn(&[Side]) -> bool) -> (usize, usize) {
-    let count = orders.iter().filter(|order| lost(order)).count();
-    (count, orders.len())
-}
-
 /// Those that look at req_prod before the request is published, and set req_event after the guest
 /// has looked at it: the host's last step comes last, and its first before the guest's second.
 #[test]
@@ -250,41 +171,9 @@ fn no_response_is_slept_over_after_a_second_look() {
     assert_eq!(lost(&orders(3, 3), by_second_look), (0, 20));
 }
 
-/// The shared part of a run without lockstep.
-#[derive(Default)]
-struct Bells {
-    to_host: EventChannel,
-    to_guest: EventChannel,
-    finished: AtomicBool,
-}
-
-/// Nobody sleeps as long unless a wake-up is lost.
-const BOUND: Duration = Duration::from_secs(60);
 /// A free run ends with whichever comes first.
 const REQUESTS: u64 = 75_000;
 const RUN_FOR: Duration = Duration::from_secs(2);
-
-/// Serves until the guest has finished, sleeping whenever a turn is idle.
-fn serve(mut backend: LiveBackend, bells: &Bells) {
-    loop {
-        let notify = match backend.turn() {
-            Turn::Idle if bells.finished.load(Ordering::SeqCst) => return,
-            Turn::Idle => {
-                assert!(bells.to_host.wait(BOUND), "the host slept over a request");
-                false
-            }
-            Turn::Started(plan) => {
-                let done = backend.complete(plan.name, plan.expected_result());
-                done.unwrap().notify
-            }
-            Turn::Answered { notify, .. } => notify,
-            other => panic!("{other}"),
-        };
-        if notify {
-            bells.to_guest.notify();
-        }
-    }
-}
 
 /// A guest that sends requests in small lots, some of them unknown operations, and sleeps until each
 /// lot has its responses.
@@ -309,8 +198,7 @@ impl Asker<'_> {
                 self.collect();
             }
         }
-        self.bells.finished.store(true, Ordering::SeqCst);
-        self.bells.to_host.notify();
+        self.bells.finish();
         self.sent
     }
 
@@ -355,13 +243,15 @@ fn nobody_sleeps_over_anything_in_a_free_run() {
 
 /// Gives how many requests were sent.
 fn free_run(abi: Abi) -> u64 {
-    let (page, port) = (GuestPage::new(), port().unwrap());
+    let (page, port) = (GuestPage::new(), Port::try_from(0).unwrap());
     let mut backend = LiveBackend::new().unwrap();
-    backend.open(port, &sheet(abi), page.shared(abi)).unwrap();
+    backend
+        .open(port, &usual_sheet_of(abi), page.shared(abi))
+        .unwrap();
     backend.grants_mut(port)[0] = 2;
     let bells = Bells::default();
     thread::scope(|scope| {
-        scope.spawn(|| serve(backend, &bells));
+        scope.spawn(|| bells.serve(backend));
         let asker = Asker {
             frontend: Frontend::new(page, abi),
             bells: &bells,

@@ -9,6 +9,7 @@ static uint8_t grants[KH_GRANTS_BYTES];
 static void check_archive_matches_header(void) {
     CHECK_EQ(kh_version(), KH_VERSION);
     CHECK_EQ(kh_memory_words(), KH_MEMORY_WORDS);
+    CHECK_EQ(kh_guest_words(), KH_GUEST_WORDS);
 }
 
 /* The other tests go by the rules' numbers: this is what each is called. */
@@ -24,9 +25,11 @@ static void check_names(void) {
     static const int sheets[] = {KH_SHEET_SHAPE, KH_SHEET_NODES, KH_SHEET_TEXT, KH_SHEET_NUMBER, KH_SHEET_MISSING};
     static const int reasons[] = {KH_UNKNOWN_OPERATION, KH_FEATURE_OFF, KH_SECURE_OFF, KH_READ_ONLY, KH_WRONG_AMOUNT,
                                   KH_WRONG_SEGMENT,     KH_NOT_GRANTED, KH_PAST_END,   KH_UNALIGNED};
+    static const int guest[] = {KH_RING_FULL, KH_ID_OUTSTANDING, KH_BAD_REQUEST, KH_BAD_RSP_PROD, KH_NOT_OUTSTANDING};
     check_named(calls, COUNT_OF(calls), 0);
     check_named(sheets, COUNT_OF(sheets), 11);
     check_named(reasons, COUNT_OF(reasons), 21);
+    check_named(guest, COUNT_OF(guest), 31);
 }
 
 /* A sheet with its protocol named, "x86_32-abi" or another of ten letters. */
@@ -129,6 +132,61 @@ static void check_completion_reader(void) {
     CHECK(completed.port == 7 && completed.status == KH_NOT_SUPPORTED && completed.notify);
 }
 
+/* Each word where the interface has it, and zero where it has none. */
+static void check_request_writer(void) {
+    static const kh_request request = {101, 102, 103, 104, 105, 106, {{107, 108, 109}, {110, 111, 112}}};
+    uint64_t words[KH_REQUEST_WORDS];
+    uint64_t i;
+    memset(words, 0xA5, sizeof words);
+    kh_write_request(&request, words);
+    for (i = 0; i < 6; i++)
+        CHECK_EQ(words[i], 101 + i);
+    for (i = 8; i < 14; i++)
+        CHECK_EQ(words[i], 99 + i);
+    for (i = 14; i < KH_REQUEST_WORDS; i++)
+        CHECK_EQ(words[i], 0);
+    CHECK(words[6] == 0 && words[7] == 0);
+}
+
+static void check_collected_reader(void) {
+    static const uint64_t statuses[] = {0, 0x7FFF, 0x8000, 0xFFFE, 0xFFFF};
+    static const int due[] = {KH_OKAY, 32767, -32768, KH_NOT_SUPPORTED, KH_ERROR};
+    static const uint64_t nothing[KH_COLLECT_WORDS] = {0, 0, 0, 0};
+    kh_collected collected = kh_read_collected(nothing);
+    size_t i;
+    CHECK(!collected.found && collected.id == 0 && collected.operation == 0 && collected.status == 0);
+    for (i = 0; i < COUNT_OF(due); i++) {
+        uint64_t answer[KH_COLLECT_WORDS] = {1, UINT64_MAX, KH_DISCARD, 0};
+        answer[KH_COLLECT_STATUS] = statuses[i];
+        collected = kh_read_collected(answer);
+        CHECK(collected.found && collected.id == UINT64_MAX && collected.operation == KH_DISCARD);
+        CHECK_EQ(collected.status, due[i]);
+    }
+}
+
+/* A guest that puts a read; a backend's answer to it. */
+static void check_guest_calls(void) {
+    static uint8_t page[KH_RING_BYTES];
+    static kh_guest guest;
+    kh_request request = {KH_READ, 0x1234, 8, 1, 0, 0, {{9, 0, 7}}};
+    uint64_t words[KH_REQUEST_WORDS], notify[KH_PUT_WORDS], answer[KH_COLLECT_WORDS];
+    page[KH_REQ_EVENT] = 1;
+    kh_write_request(&request, words);
+    CHECK_EQ(kh_guest_put(&guest, NULL, 0, words, notify), KH_WRONG_LENGTH);
+    CHECK_EQ(kh_guest_put(&guest, page, sizeof page, words, notify), KH_OK);
+    CHECK_EQ(notify[KH_PUT_NOTIFY], 1);
+    CHECK_EQ(kh_guest_put(&guest, page, sizeof page, words, notify), KH_ID_OUTSTANDING);
+    CHECK(page[KH_REQ_PROD] == 1 && page[KH_HEADER_BYTES + 1] == 1 && page[KH_HEADER_BYTES + 29] == 7);
+    CHECK_EQ(kh_guest_collect(&guest, page, sizeof page, answer), KH_OK);
+    CHECK(!kh_read_collected(answer).found && page[KH_RSP_EVENT] == 1);
+    put(page + KH_HEADER_BYTES, 8, 0x1234);
+    put(page + KH_HEADER_BYTES + 8, 8, 0xFFFF0000);
+    page[KH_RSP_PROD] = 1;
+    CHECK_EQ(kh_guest_collect(&guest, page, sizeof page, answer), KH_OK);
+    CHECK(kh_read_collected(answer).found && kh_read_collected(answer).id == 0x1234);
+    CHECK(kh_read_collected(answer).operation == KH_READ && kh_read_collected(answer).status == KH_ERROR);
+}
+
 int main(void) {
     running.name = "header";
     check_archive_matches_header();
@@ -138,5 +196,8 @@ int main(void) {
     check_calls();
     check_turn_reader();
     check_completion_reader();
+    check_request_writer();
+    check_collected_reader();
+    check_guest_calls();
     return running.failures != 0;
 }

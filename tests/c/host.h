@@ -9,8 +9,8 @@
 #include "check.h"
 #include "kernelharp.h"
 
-/* What was lent, in the order of the buffers below. */
-enum area { MEMORY, RINGS, GRANTS, TURNED, COMPLETED, METERS, AREAS };
+/* What was lent, in the order of the buffers below: to the backend's calls, then to a guest's (front.h has those). */
+enum area { MEMORY, RINGS, GRANTS, TURNED, COMPLETED, METERS, GUEST, PAGE, REQUEST, PUT_ANSWER, COLLECT_ANSWER, AREAS };
 
 typedef struct {
     uint64_t id;
@@ -41,6 +41,15 @@ typedef struct {
     started tags[KH_TAGS];
 } book;
 
+/* What the answers so far say of the guest. The indices are called as in ring.h. */
+typedef struct {
+    uint32_t req_prod, rsp_cons;
+    uint32_t count; /* outstanding */
+    struct {
+        uint64_t id, operation;
+    } outstanding[KH_SLOTS];
+} ledger;
+
 typedef struct {
     uint8_t *at[AREAS];
     uint8_t *before[AREAS]; /* as it was before the last call */
@@ -48,6 +57,7 @@ typedef struct {
     book books[KH_PORTS];
     kh_meter counts[KH_PORTS]; /* what each meter has to say, whatever opens and closes between */
     enum kh_abi abi;           /* of the ports that are opened by nodes that name no protocol */
+    ledger front;
 } host;
 
 static inline uint64_t *words(const host *h, enum area area) {
@@ -112,10 +122,22 @@ static inline void resize(host *h, enum area area, size_t bytes) {
     h->before[area] = bytes > 0 ? (uint8_t *)malloc(bytes) : NULL;
 }
 
-/* The empty backend, empty rings, new meters, and frames 0 to 15 of every port granted for read and write. */
+/*
+ * The empty backend, empty rings, new meters, and frames 0 to 15 of every port granted for read and write; a fresh
+ * guest and its page.
+ */
 static inline void reset(host *h) {
-    static const size_t bytes[AREAS] = {8 * KH_MEMORY_WORDS, KH_RINGS_BYTES,    KH_GRANTS_BYTES,
-                                        8 * KH_TURN_WORDS,   8 * KH_DONE_WORDS, KH_PORTS * sizeof(kh_meter)};
+    static const size_t bytes[AREAS] = {[MEMORY] = 8 * KH_MEMORY_WORDS,
+                                        [RINGS] = KH_RINGS_BYTES,
+                                        [GRANTS] = KH_GRANTS_BYTES,
+                                        [TURNED] = 8 * KH_TURN_WORDS,
+                                        [COMPLETED] = 8 * KH_DONE_WORDS,
+                                        [METERS] = KH_PORTS * sizeof(kh_meter),
+                                        [GUEST] = 8 * KH_GUEST_WORDS,
+                                        [PAGE] = KH_RING_BYTES,
+                                        [REQUEST] = 8 * KH_REQUEST_WORDS,
+                                        [PUT_ANSWER] = 8 * KH_PUT_WORDS,
+                                        [COLLECT_ANSWER] = 8 * KH_COLLECT_WORDS};
     for (int area = 0; area < AREAS; area++) {
         if (h->bytes[area] != bytes[area])
             resize(h, (enum area)area, bytes[area]);
@@ -125,6 +147,7 @@ static inline void reset(host *h) {
         memset(h->at[GRANTS] + KH_PORT_GRANTS * port, KH_GRANT_READ_WRITE, 16);
     memset(h->books, 0, sizeof h->books);
     memset(h->counts, 0, sizeof h->counts);
+    memset(&h->front, 0, sizeof h->front);
 }
 
 /* ---- what holds of every call */
@@ -136,8 +159,9 @@ static inline void remember(const host *h) {
 }
 
 static inline void check_same(const host *h, enum area area) {
-    static const char *const names[AREAS] = {"memory", "rings", "grants", "turn's answer", "completion's answer",
-                                             "meters"};
+    static const char *const names[AREAS] = {
+        "memory",       "rings", "grants",  "turn's answer", "completion's answer", "meters",
+        "guest memory", "page",  "request", "put's answer",  "collect's answer"};
     size_t i = 0;
     if (h->bytes[area] == 0 || memcmp(h->at[area], h->before[area], h->bytes[area]) == 0)
         return;

@@ -2,10 +2,7 @@
  * The library with one fault put before or after its calls, named by the environment variable WRONG, to see that the
  * tests find it. Linked between a test and the archive (the linker's --wrap).
  */
-#include <stdlib.h>
-#include <string.h>
-
-#include "kernelharp.h"
+#include "wrong.h"
 
 uint32_t __real_kh_open(kh_memory *memory, uint32_t port, const uint8_t *sheet, size_t sheet_bytes);
 uint32_t __real_kh_close(kh_memory *memory, uint32_t port);
@@ -16,20 +13,6 @@ uint32_t __real_kh_complete(kh_memory *memory, uint8_t *rings, size_t rings_byte
 
 typedef void raise_meter(kh_meter *meter, uint32_t returned, const uint64_t *answer);
 raise_meter __real_kh_meter_turn, __real_kh_meter_completion, __wrap_kh_meter_turn, __wrap_kh_meter_completion;
-
-static bool wrong(const char *fault) {
-    const char *chosen = getenv("WRONG");
-    return chosen != NULL && strcmp(chosen, fault) == 0;
-}
-
-/* Reads the byte before or after a buffer. */
-static void peek(const char *fault_before, const char *fault_after, const void *buffer, size_t bytes) {
-    const volatile uint8_t *at = (const volatile uint8_t *)buffer;
-    if (wrong(fault_before) && bytes > 0)
-        (void)at[-1];
-    if (wrong(fault_after))
-        (void)at[bytes];
-}
 
 /* ---- the layouts of the ports, by the last opening of each; the tests have one backend at a time */
 

@@ -19,7 +19,7 @@ const struct layout layouts[] = {
 struct bench bench;
 uint8_t *const rings = (uint8_t *)RINGS_AT;
 volatile uint64_t *const markers = (volatile uint64_t *)MARKERS_AT;
-const struct backend archive = {kh_turn, kh_complete};
+const struct backend archive = {kh_turn, kh_complete, kh_guest_put, kh_guest_collect};
 
 _Noreturn void fail(const char *format, ...) {
     va_list words;
@@ -42,15 +42,27 @@ void map_buffers(void) {
         fail("mprotect of the rings");
     if (kh_version() != KH_VERSION || kh_memory_words() != KH_MEMORY_WORDS)
         fail("an archive of version %u with %u words of memory", kh_version(), kh_memory_words());
+    if (kh_guest_words() != KH_GUEST_WORDS)
+        fail("an archive with %u words of guest memory", kh_guest_words());
 }
 
 void call_backend(const struct backend *backend, const struct call *call, uint8_t *lent, struct outcome *outcome) {
-    if (call->completes)
-        outcome->refusal = backend->complete(&bench.memory, lent, call->rings_bytes, call->port, call->tag,
-                                             call->serial, call->result, outcome->answer);
-    else
+    uint8_t *page = lent + PAGE_BYTES * call->port; /* the guest's */
+    switch (call->callee) {
+    case CALL_TURN:
         outcome->refusal =
             backend->turn(&bench.memory, lent, call->rings_bytes, bench.grants, call->grants_bytes, outcome->answer);
+        break;
+    case CALL_COMPLETE:
+        outcome->refusal = backend->complete(&bench.memory, lent, call->rings_bytes, call->port, call->tag,
+                                             call->serial, call->result, outcome->answer);
+        break;
+    case CALL_PUT:
+        outcome->refusal = backend->put(&bench.guest, page, call->rings_bytes, bench.request, outcome->answer);
+        break;
+    case CALL_COLLECT:
+        outcome->refusal = backend->collect(&bench.guest, page, call->rings_bytes, outcome->answer);
+    }
 }
 
 uint32_t load32(const uint8_t *from) {

@@ -1,4 +1,4 @@
-/* A backend with its lent buffers, one call of it, and the book that the test keeps of the ports by itself. */
+/* A backend and a guest with their lent buffers, one call of them, and the books that the test keeps by itself. */
 #ifndef ONCE_BENCH_H
 #define ONCE_BENCH_H
 
@@ -27,11 +27,20 @@ struct book {
     uint32_t taken, answered;
 };
 
+/* Of the guest: the port whose page it has, and its own indices, called as in ring.h. */
+struct ledger {
+    unsigned port;
+    uint32_t req_prod, rsp_cons;
+};
+
 struct bench {
     kh_memory memory;
     uint8_t grants[KH_GRANTS_BYTES];
     struct book ports[PORTS];
     unsigned pointer;
+    kh_guest guest;
+    uint64_t request[KH_REQUEST_WORDS];
+    struct ledger front;
 };
 
 extern struct bench bench;
@@ -42,11 +51,14 @@ extern uint8_t *const rings;
 /* A store to the first word says that a call begins, to the second that it has ended: seen in a trace. */
 extern volatile uint64_t *const markers;
 
-/* IDLE to OVERRUN are the numbers of a turn's answer. */
-enum kind { IDLE, STARTED, ANSWERED, OVERRUN, COMPLETED };
+/* IDLE to OVERRUN are the numbers of a turn's answer. The last three are the guest's. */
+enum kind { IDLE, STARTED, ANSWERED, OVERRUN, COMPLETED, PUT, COLLECTED, NOTHING };
 
+enum callee { CALL_TURN, CALL_COMPLETE, CALL_PUT, CALL_COLLECT };
+
+/* The guest's calls are lent the page alone, and `rings_bytes` is its length. */
 struct call {
-    bool completes;
+    enum callee callee;
     size_t rings_bytes, grants_bytes;
     uint32_t port, tag, serial;
     int32_t result;
@@ -61,6 +73,8 @@ struct outcome {
 struct backend {
     uint32_t (*turn)(kh_memory *, uint8_t *, size_t, const uint8_t *, size_t, uint64_t *);
     uint32_t (*complete)(kh_memory *, uint8_t *, size_t, uint32_t, uint32_t, uint32_t, int32_t, uint64_t *);
+    uint32_t (*put)(kh_guest *, uint8_t *, size_t, const uint64_t *, uint64_t *);
+    uint32_t (*collect)(kh_guest *, uint8_t *, size_t, uint64_t *);
 };
 
 extern const struct backend archive;

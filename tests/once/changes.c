@@ -54,8 +54,40 @@ static void flip(const char *name, unsigned at, unsigned size, changer *with) {
     with(&change);
 }
 
+/* A response with another id, operation and status, in the place of the one that is there. */
+static void replace_response(unsigned at, changer *with) {
+    uint8_t bytes[KH_RESPONSE_BYTES];
+    for (unsigned fields = 1; fields < 8; fields++) {
+        memcpy(bytes, rings + at, sizeof bytes);
+        bytes[0] ^= fields & 1 ? 1 : 0;
+        bytes[8] ^= fields & 2 ? 1 : 0;
+        bytes[10] ^= fields & 4 ? 0xFF : 0;
+        struct change change = {"response", at, sizeof bytes, false, bytes};
+        with(&change);
+    }
+}
+
+/* Nothing to collect, one, as many as may be, one too many, one behind; and each index that is the guest's own. */
+static void each_guest_change(const struct ledger *front, changer *with) {
+    uint32_t outstanding = front->req_prod - front->rsp_cons;
+    uint32_t distances[] = {0, 1, outstanding, outstanding + 1, UINT32_MAX};
+    for (unsigned i = 0; i < sizeof distances / sizeof *distances; i++)
+        move_index("rsp_prod", front->port, RSP_PROD, front->rsp_cons + distances[i], with);
+    for (uint32_t step = 0; step < 3; step++)
+        move_index("req_event", front->port, REQ_EVENT, front->req_prod + step, with);
+    move_index("req_prod", front->port, REQ_PROD, front->req_prod + 7, with);
+    move_index("rsp_event", front->port, RSP_EVENT, front->rsp_cons + 7, with);
+    replace_response(slot_at(front->port, front->rsp_cons), with);
+    flip("slot flipped", slot_at(front->port, front->req_prod), MOST_SLOT_BYTES, with);
+    flip("page flipped", PAGE_BYTES * front->port, PAGE_BYTES, with);
+}
+
 void each_change(const struct scenario *scenario, changer *with) {
     unsigned port = scenario->expect.port;
+    if (scenario->expect.kind >= PUT) {
+        each_guest_change(&bench.front, with);
+        return;
+    }
     move_req_prod(port, with);
     move_others(port, with);
     if (scenario->expect.kind == STARTED || scenario->expect.kind == ANSWERED)

@@ -22,9 +22,10 @@ static const struct scenario *scenario;
 static const char *only_names;
 static struct counts of_name, of_all;
 
-/* The backend and rings before the call. */
+/* The backend, the guest and the rings before the call. */
 static struct {
     kh_memory memory;
+    kh_guest guest;
     uint8_t rings[KH_RINGS_BYTES];
 } before;
 
@@ -35,6 +36,7 @@ static struct result as_old, as_new;
 
 static void restore(void) {
     bench.memory = before.memory;
+    bench.guest = before.guest;
     memcpy(rings, before.rings, sizeof before.rings);
 }
 
@@ -135,6 +137,7 @@ static void try_scenario(const struct scenario *next) {
         return;
     scenario = next;
     before.memory = bench.memory;
+    before.guest = bench.guest;
     memcpy(before.rings, rings, sizeof before.rings);
     traced_call(backend, &scenario->call, NULL, &undisturbed, &as_old);
     restore();

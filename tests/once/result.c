@@ -34,6 +34,7 @@ void traced_call(const struct backend *backend, const struct call *call, meddler
     call_backend(backend, call, rings, &result->outcome);
     trap_end();
     result->memory = bench.memory;
+    result->guest = bench.guest;
     note_stores(result, trace);
 }
 
@@ -49,5 +50,6 @@ static bool is_same_stored(const struct result *one, const struct result *other)
 bool is_same(const struct result *one, const struct result *other) {
     return one->outcome.refusal == other->outcome.refusal &&
            memcmp(one->outcome.answer, other->outcome.answer, sizeof one->outcome.answer) == 0 &&
-           memcmp(&one->memory, &other->memory, sizeof one->memory) == 0 && is_same_stored(one, other);
+           memcmp(&one->memory, &other->memory, sizeof one->memory) == 0 &&
+           memcmp(&one->guest, &other->guest, sizeof one->guest) == 0 && is_same_stored(one, other);
 }

@@ -1,4 +1,4 @@
-/* All that one call did: what it answered, the backend memory after it, and the ring bytes that it stored. */
+/* All that one call did: what it answered, the backend and guest memory after it, and the ring bytes that it stored. */
 #ifndef ONCE_RESULT_H
 #define ONCE_RESULT_H
 
@@ -15,6 +15,7 @@ struct stored {
 struct result {
     struct outcome outcome;
     kh_memory memory;
+    kh_guest guest;
     unsigned stored_count;
     struct stored stored[MOST_STORED];
 };

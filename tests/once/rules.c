@@ -38,9 +38,40 @@ static void name_armed(struct named *named) {
             name_bytes(named->store, header_at(k, REQ_EVENT), INDEX_BYTES);
 }
 
-/* By the book as it stands before the call. */
+/* A put looks at req_event alone, and writes its whole slot. */
+static void name_put(struct named *named) {
+    const struct ledger *front = &bench.front;
+    name_bytes(named->load, header_at(front->port, REQ_EVENT), INDEX_BYTES);
+    name_bytes(named->store, slot_at(front->port, front->req_prod), MOST_SLOT_BYTES);
+    name_bytes(named->store, header_at(front->port, REQ_PROD), INDEX_BYTES);
+}
+
+/* A collecting looks at a response where rsp_prod makes sense, and arms where there is none. */
+static void name_collecting(struct named *named, const struct expect *expect) {
+    const struct ledger *front = &bench.front;
+    name_bytes(named->load, header_at(front->port, RSP_PROD), INDEX_BYTES);
+    if (expect->refusal == KH_BAD_RSP_PROD)
+        return;
+    if (expect->kind == NOTHING)
+        name_bytes(named->store, header_at(front->port, RSP_EVENT), INDEX_BYTES);
+    else
+        name_bytes(named->load, slot_at(front->port, front->rsp_cons), KH_RESPONSE_BYTES);
+}
+
+static void name_guest_call(struct named *named, const struct expect *expect) {
+    if (expect->kind != PUT && expect->refusal != KH_WRONG_LENGTH)
+        name_collecting(named, expect);
+    if (expect->kind == PUT && expect->refusal == KH_OK)
+        name_put(named);
+}
+
+/* By the books as they stand before the call. */
 static void name_all(struct named *named, const struct expect *expect) {
     memset(named, 0, sizeof *named);
+    if (expect->kind >= PUT) {
+        name_guest_call(named, expect);
+        return;
+    }
     if (expect->refusal)
         return;
     if (expect->kind != COMPLETED)
@@ -73,9 +104,27 @@ static unsigned fault(const struct scenario *scenario, const struct access *acce
     return 1;
 }
 
+/* An index is stored after what it publishes, and loaded before what it speaks of; a put asks whether to notify when its
+   own is out. */
+static const char *out_of_order(const struct access *access, const struct named *seen) {
+    unsigned header = access->at / PAGE_BYTES * PAGE_BYTES;
+    if (access->load && access->at == header + REQ_EVENT && !seen->store[header + REQ_PROD])
+        return "loaded before req_prod is out";
+    if (access->at - header < FIRST_SLOT)
+        return NULL;
+    if (access->store && (seen->store[header + REQ_PROD] || seen->store[header + RSP_PROD]))
+        return "stored after its index";
+    if (access->load && !seen->load[header + REQ_PROD] && !seen->load[header + RSP_PROD])
+        return "loaded before its index";
+    return NULL;
+}
+
 /* The first byte of an access that is at fault settles it. */
 static unsigned judge_access(const struct scenario *scenario, const struct access *access, const struct named *named,
                              struct named *seen) {
+    const char *order = out_of_order(access, seen);
+    if (order)
+        return fault(scenario, access, access->at, order);
     for (unsigned at = access->at; at < access->at + access->size; at++) {
         if (access->load && !named->load[at])
             return fault(scenario, access, at, "loaded but not named");
@@ -106,6 +155,12 @@ static bool is_completed(const struct expect *expect, const uint64_t *answer) {
            answer[KH_DONE_NOTIFY] == expect->notify;
 }
 
+static bool is_guest_answer(const struct expect *expect, const uint64_t *answer) {
+    if (expect->kind == PUT)
+        return answer[KH_PUT_NOTIFY] == expect->notify;
+    return answer[KH_COLLECT_FOUND] == (expect->kind == COLLECTED);
+}
+
 bool is_expected(const struct scenario *scenario, const struct outcome *outcome) {
     const struct expect *expect = &scenario->expect;
     const uint64_t *answer = outcome->answer;
@@ -113,6 +168,8 @@ bool is_expected(const struct scenario *scenario, const struct outcome *outcome)
         return false;
     if (expect->refusal)
         return true;
+    if (expect->kind >= PUT)
+        return is_guest_answer(expect, answer);
     if (expect->kind == COMPLETED)
         return is_completed(expect, answer);
     if (answer[KH_TURN_KIND] != expect->kind || answer[KH_TURN_PORT] != expect->port)

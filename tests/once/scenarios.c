@@ -2,6 +2,7 @@
 
 #include <string.h>
 
+#include "guests.h"
 #include "place.h"
 
 static visitor *visit_next;
@@ -136,7 +137,7 @@ static struct call started(const struct place *place, const struct request *requ
     prepare(place, abi, request->disk);
     uint32_t serial = bench.ports[place->port].taken;
     uint32_t tag = serve(place->port, request);
-    return (struct call){.completes = true,
+    return (struct call){.callee = CALL_COMPLETE,
                          .rings_bytes = KH_RINGS_BYTES,
                          .port = place->port,
                          .tag = tag,
@@ -226,4 +227,7 @@ void each_scenario(visitor *visit, bool samples) {
     grant_frames();
     for (abi = KH_BITS64; abi <= KH_BITS32; abi++)
         each_in_layout();
+    abi = KH_BITS64; /* the only one that the guest's half has */
+    reset();
+    each_guest_call(&(struct taker){is_wanted, hand_over});
 }

@@ -3,27 +3,6 @@
 #include <emmintrin.h>
 #include <string.h>
 
-/* One fault each. The first has none, and must pass. */
-enum fault {
-    NO_FAULT,
-    REQ_PROD_TWICE,
-    REQ_PROD_BY_BYTES,
-    LOOKS_FURTHER,
-    SLOT_OVERLAP,
-    TAIL_OVERLAP,
-    SLOT_TOO_FAR,
-    SLOT_OF_112,
-    SLOT_BY_LIBRARY,
-    SECOND_LOOK,
-    RSP_EVENT_TWICE,
-    RSP_EVENT_ALWAYS,
-    RSP_PROD_READ,
-    BYTE_TOO_MANY,
-    RESPONSE_OF_16,
-    RSP_PROD_STORED_TWICE,
-    ARMED_ON_SERVICE,
-};
-
 static const char *const names[] = {
     [NO_FAULT] = "no-fault",
     [REQ_PROD_TWICE] = "req-prod-twice",
@@ -41,24 +20,40 @@ static const char *const names[] = {
     [BYTE_TOO_MANY] = "byte-too-many",
     [RESPONSE_OF_16] = "response-of-16",
     [RSP_PROD_STORED_TWICE] = "rsp-prod-stored-twice",
+    [RSP_PROD_FIRST] = "rsp-prod-first",
     [ARMED_ON_SERVICE] = "armed-on-service",
+    [PUT_BY_THE_PAGE] = "put-by-the-page",
+    [REQ_EVENT_FIRST] = "req-event-first",
+    [REQ_EVENT_TWICE] = "req-event-twice",
+    [REQ_EVENT_WHERE_REFUSED] = "req-event-where-refused",
+    [REQ_PROD_FIRST] = "req-prod-first",
+    [PUT_TOO_FAR] = "put-too-far",
+    [PUT_TWICE] = "put-twice",
+    [RSP_PROD_TWICE] = "rsp-prod-twice",
+    [RSP_PROD_BY_BYTES] = "rsp-prod-by-bytes",
+    [RESPONSE_FIRST] = "response-first",
+    [RESPONSE_TWICE] = "response-twice",
+    [RESPONSE_ALWAYS] = "response-always",
+    [RESPONSE_TOO_FAR] = "response-too-far",
+    [RESPONSE_SECOND_LOOK] = "response-second-look",
+    [ARMED_ON_COLLECTING] = "armed-on-collecting",
 };
 
-static enum fault fault;
+enum fault fault;
 
 /* The call is made on a copy of what was looked at; then what it wrote goes to the rings. */
-static uint8_t copy[KH_RINGS_BYTES];
-static uint8_t *live;
+uint8_t copy[KH_RINGS_BYTES];
+uint8_t *live;
 
-static void take_byte(unsigned at) {
+void take_byte(unsigned at) {
     copy[at] = *(volatile uint8_t *)(live + at);
 }
 
-static void take32(unsigned at) {
+void take32(unsigned at) {
     store32(copy + at, *(volatile uint32_t *)(live + at));
 }
 
-static void take_words(unsigned at, unsigned bytes) {
+void take_words(unsigned at, unsigned bytes) {
     for (unsigned i = 0; i < bytes; i += 4)
         take32(at + i);
 }
@@ -71,11 +66,11 @@ static void take_by_16(unsigned at, unsigned bytes) {
     }
 }
 
-static void give_byte(unsigned at) {
+void give_byte(unsigned at) {
     *(volatile uint8_t *)(live + at) = copy[at];
 }
 
-static void give32(unsigned at) {
+void give32(unsigned at) {
     *(volatile uint32_t *)(live + at) = load32(copy + at);
 }
 
@@ -137,6 +132,8 @@ static void take_rsp_event(unsigned port) {
 
 static void give_response(unsigned port) {
     unsigned at = slot_at(port, bench.ports[port].answered), bytes = layout_of(port)->response_bytes;
+    if (fault == RSP_PROD_FIRST)
+        give32(header_at(port, RSP_PROD));
     for (unsigned i = 0; i < (fault == RESPONSE_OF_16 ? KH_RESPONSE_BYTES : bytes); i += 4)
         give32(at + i);
     if (fault == BYTE_TOO_MANY)
@@ -212,7 +209,7 @@ static uint32_t complete(kh_memory *memory, uint8_t *lent, size_t rings_bytes, u
 }
 
 const struct backend *backend_named(const char *name) {
-    static const struct backend standin = {turn, complete};
+    static const struct backend standin = {turn, complete, standin_put, standin_collect};
     if (!name)
         return &archive;
     for (unsigned i = 0; i < sizeof names / sizeof *names; i++)

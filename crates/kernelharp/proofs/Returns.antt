@@ -5,15 +5,20 @@ use Prim.Native.Nat.{ℕ}
 use lib.IntN.{ℤ}
 use Rattle.wire.specs.Part.{setPart}
 use Rattle.wire.proofs.Part.{setPart-part}
-use Rattle.model.specs.Answers.{refusal, turnedNumber, completedNumber, extentsAt, extentsIn, turnLeft, doneLeft}
+use Rattle.model.specs.Answers.{refusal, turnedNumber, completedNumber, extentsAt, extentsIn, turnLeft, doneLeft, putNumber, collectedNumber, putLeft, collectedLeft}
 use Rattle.model.specs.Calls.{Call, TurnEffect, CompleteEffect, Effect}
 use Rattle.model.specs.Deeds.{deeds}
 use Rattle.model.specs.Plan.{planWords}
 use Rattle.model.specs.Rules.{effectDue}
+use Rattle.model.specs.declared.Collected.{Collected}
 use Rattle.model.specs.declared.Completed.{Completed}
+use Rattle.model.specs.declared.Put.{Put}
 use Rattle.model.specs.declared.Turned.{Turned}
+use Rattle.frontend.specs.Promise.{putWordsLeft, collectWordsLeft, PutPromise, CollectPromise}
+use Rattle.frontend.specs.Words.{requestIn}
 use Rattle.memory.specs.Promise.{Promised}
 use Rattle.turn.specs.Promise.{TurnPromised}
+use Rattle.kernelharp.specs.Guest.{PutReturned, CollectReturned}
 use Rattle.kernelharp.specs.Promise.{Returned, turnCall, TurnReturned, completeCall, CompleteReturned}
 use Rattle.kernelharp.proofs.Numbers.{WordsKept, TurnKeeps, turn-keeps}
 
@@ -61,4 +66,28 @@ complete-returned m rings port tag serial result answer pages left r n written p
   returned = returned m (completeCall rings port tag serial result) _ left n p (h .0);
   ringsDue = ap (λ (e : CompleteEffect). e .rings) (p .effect);
   answerDue = h .1 ∙ ap (λ (e : CompleteEffect). doneLeft (e .answer) answer) (p .effect);
+}
+
+-- ---- kh_guest_put and kh_guest_collect
+
+pub put-returned : (w page request answer left bytes : List ℕ) (r : Put) (n : ℕ) (written : List ℕ) → PutPromise w page (requestIn request) r left bytes
+    → (n ≡ putNumber r) × (written ≡ putLeft r answer)
+    → PutReturned w page request answer (record { number = n; guest = left; page = bytes; answer = written })
+put-returned w page request answer left bytes r n written p h = record {
+  number = h .0 ∙ ap putNumber (p .answered);
+  pageDue = p .pageDue;
+  answerDue = h .1 ∙ ap (λ (x : Put). putLeft x answer) (p .answered);
+  guestDue = p .guestDue;
+  words = p .words ∙ ap (putWordsLeft w (requestIn request .pair)) (p .answered);
+}
+
+pub collect-returned : (w page answer left bytes : List ℕ) (r : Collected) (n : ℕ) (written : List ℕ) → CollectPromise w page r left bytes
+    → (n ≡ collectedNumber r) × (written ≡ collectedLeft r answer)
+    → CollectReturned w page answer (record { number = n; guest = left; page = bytes; answer = written })
+collect-returned w page answer left bytes r n written p h = record {
+  number = h .0 ∙ ap collectedNumber (p .answered);
+  pageDue = p .pageDue;
+  answerDue = h .1 ∙ ap (λ (x : Collected). collectedLeft x answer) (p .answered);
+  guestDue = p .guestDue;
+  words = p .words ∙ ap (collectWordsLeft w) (p .answered);
 }

@@ -134,12 +134,12 @@ module _ (m : List ℕ) (h : List Event) (s : Step) (y : BytesLent (s .made)) (r
   step-backend = step-returned m (s .made) (s .left) r .becomes .backend ∙ sym (step-next m s r)
 
 -- all that is known after a run
-record After (m : List ℕ) (h : List Event) (run : List Step) : Type 0 where
-  told : Told (backendOf (memoryAfter m run)) (eventsAfter h run)
-  exact : Exact (memoryAfter m run)
-  words : WordForWord h (backendOf m) run
+pub record After (m : List ℕ) (h : List Event) (run : List Step) : Type 0 where
+  pub told : Told (backendOf (memoryAfter m run)) (eventsAfter h run)
+  pub exact : Exact (memoryAfter m run)
+  pub words : WordForWord h (backendOf m) run
 
-run-after : (m : List ℕ) (h : List Event) (run : List Step) → Run m run → All (λ s. BytesLent (s .made)) run → Told (backendOf m) h → Exact m → After m h run
+pub run-after : (m : List ℕ) (h : List Event) (run : List Step) → Run m run → All (λ s. BytesLent (s .made)) run → Told (backendOf m) h → Exact m → After m h run
 run-after m h [] r y w x = record { told = w; exact = x; words = tt }
 run-after m h (s ∷ run) r y w x =
     let left = memoryLeft (s .made) (s .left) in

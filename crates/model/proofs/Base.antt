@@ -63,6 +63,12 @@ least-before (suc n) f (suc i) =
     (λ _ h. absurd (not-suc-le-zero h))
     (λ _ h. least-before n (λ j. f (suc j)) i (le-of-suc-le-suc h))
 
+-- where none passes, that is said by the bound
+pub least-none : (n : ℕ) (f : ℕ → Bool) → ((i : ℕ) → i < n → f i ≡ false) → least n f ≡ n
+unfolding least
+least-none zero f h = refl
+least-none (suc n) f h = rw (h 0 (omega arith)) (ap suc (least-none n (λ i. f (suc i)) (λ i l. h (suc i) (omega arith))))
+
 -- one that passes, with none before it, is the least
 pub least-found : (n : ℕ) (f : ℕ → Bool) (i : ℕ) → i < n → f i ≡ true → ((j : ℕ) → j < i → f j ≡ false) → least n f ≡ i
 least-found n f i l e b = go (decLt i (least n f)) (decLt (least n f) i)

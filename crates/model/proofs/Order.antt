@@ -41,13 +41,13 @@ count-all (x ∷ l) = ap suc (count-all l)
 abbrev pub isPair : Pair → Pair → Bool
 isPair p q = eqb (p .id) (q .id) && eqb (p .operation) (q .operation)
 
-isPair-true : (p q : Pair) → isPair p q ≡ true → p ≡ q
+pub isPair-true : (p q : Pair) → isPair p q ≡ true → p ≡ q
 isPair-true p q e =
     let a : p .id ≡ q .id = eqb-true _ _ (and-left _ _ e) in
     let b : p .operation ≡ q .operation = eqb-true _ _ (and-right (eqb (p .id) (q .id)) _ e) in
     λ i. record { id = a i; operation = b i }
 
-isPair-self : (p : Pair) → isPair p p ≡ true
+pub isPair-self : (p : Pair) → isPair p p ≡ true
 isPair-self p = rw (eq-eqb (p .id) (p .id) refl, eq-eqb (p .operation) (p .operation) refl)
 
 -- ---- from counts to a reordering

@@ -1,14 +1,16 @@
 -- The laws of a port's page: what was put is there, and a response reads back as the pair and the status that it was given. Assumes nothing.
 use mathlib.Core.Path.{_≡_, ap, _∙_}
 use mathlib.Core.List.{List}
+use mathlib.Core.Logic.{_≢_}
 use Prim.Native.Nat.{ℕ, _+_, _-_, _*_, _^_, _≤_, _<_}
+use native.Mathlib.Decide.{decLt}
 use native.Mathlib.Omega.{arith}
 use lib.ListN.{length, getD}
 use Rattle.wire.specs.LittleEndian.{load, store}
-use Rattle.wire.proofs.LittleEndian.{length-store, getD-store-outside, getD-store-inside, load-store-below, load-store-above, load-store-lt, load-lt}
-use Rattle.wire.proofs.Part.{length-part, part-setPart, bytes-part}
+use Rattle.wire.proofs.LittleEndian.{length-store, getD-store-outside, getD-store-inside, load-store-below, load-store-above, load-store-lt, load-lt, bytes-store}
+use Rattle.wire.proofs.Part.{length-part, length-setPart, part-setPart, part-setPart-below, part-setPart-above, bytes-part, bytes-setPart}
 use Rattle.model.specs.Buffers.{ports, pageShare, ringsLength, pageOf, setPage}
-use Rattle.model.specs.Ring.{Layout, Ring, setRspProd, slotAt, slotOf, requestOf, setResponse, statusBits, responsePair, responseStatus}
+use Rattle.model.specs.Ring.{Layout, Ring, setRspProd, rspProd, slotAt, slotOf, requestOf, setResponse, statusBits, responsePair, responseStatus}
 use Rattle.model.specs.Port.{after}
 use Rattle.model.specs.Turn.{responded}
 use Rattle.model.specs.declared.Pair.{Pair}
@@ -26,6 +28,24 @@ module _ (rings : List ℕ) (k : ℕ) (sized : length rings ≡ ringsLength) (sm
   pub pageOf-setPage : (page : List ℕ) → length page ≡ pageShare → pageOf (setPage rings k page) k ≡ page
   unfolding pageOf setPage
   pageOf-setPage page l = part-setPart pageShare rings (pageShare * k) page (omega arith) l
+
+  pub length-setPage : (page : List ℕ) → length page ≡ pageShare → length (setPage rings k page) ≡ length rings
+  unfolding setPage
+  length-setPage page l = length-setPart pageShare rings (pageShare * k) page (omega arith) l
+
+  -- and every other port's page is as before
+  pub pageOf-other : (page : List ℕ) → length page ≡ pageShare → (j : ℕ) → j < ports → j ≢ k → pageOf (setPage rings k page) j ≡ pageOf rings j
+  unfolding pageOf setPage
+  pageOf-other page l j here ne =
+      elim (decLt j k) [
+        | yes o ↦ part-setPart-below pageShare rings (pageShare * k) page (omega arith) l pageShare (pageShare * j) (omega arith)
+        | no o ↦ part-setPart-above pageShare rings (pageShare * k) page (omega arith) l pageShare (pageShare * j) (omega arith)
+      ]
+
+pub bytes-setPage : (rings : List ℕ) (k : ℕ) (page : List ℕ) → ((j : ℕ) → getD rings j 0 < 256) → ((j : ℕ) → getD page j 0 < 256)
+    → (j : ℕ) → getD (setPage rings k page) j 0 < 256
+unfolding setPage
+bytes-setPage rings k page h p = bytes-setPart pageShare rings (pageShare * k) page h p
 
 -- ---- requests
 
@@ -127,3 +147,31 @@ module _ (g : Ring) (f : Fits g) (page : List ℕ) (produced : ℕ) (q : Pair) (
       let at = slotAt g produced in
       load-store-above 2 4 (setResponse (g .layout) page at q s) 8 (after produced) (at + 10) (omega (arith, slotAt-header g f produced))
       ∙ status-setResponse (g .layout) page at q s (f .statusRoom) room
+
+  -- rsp_prod says so
+  pub rspProd-responded : rspProd (responded g page produced q s) ≡ after produced
+  unfolding rspProd responded setRspProd
+  rspProd-responded =
+      let long = length-setResponse (g .layout) page (slotAt g produced) q s in
+      load-store-lt 4 _ 8 (after produced) (omega arith) (omega arith)
+
+  -- only rsp_prod and the slot are written,
+  pub getD-responded : (m : ℕ) → (8 ≤ m → m < 12 → ⊥) → (slotAt g produced ≤ m → m < slotAt g produced + g .layout .slotSize → ⊥)
+      → getD (responded g page produced q s) m 0 ≡ getD page m 0
+  unfolding responded setRspProd setResponse
+  getD-responded m x y =
+      let at = slotAt g produced in
+      let n = f .responseRoom in
+      let w = f .statusRoom in
+      getD-store-outside 4 _ 8 _ m (λ i h e. x (omega arith) (omega arith))
+      ∙ getD-store-outside (g .layout .responseSize - 12) _ (at + 12) 0 m (λ i h e. y (omega arith) (omega arith))
+      ∙ getD-store-outside 2 _ (at + 10) _ m (λ i h e. y (omega arith) (omega arith))
+      ∙ getD-store-outside 1 _ (at + 9) 0 m (λ i h e. y (omega arith) (omega arith))
+      ∙ getD-store-outside 1 _ (at + 8) _ m (λ i h e. y (omega arith) (omega arith))
+      ∙ getD-store-outside 8 page at _ m (λ i h e. y (omega arith) (omega arith))
+
+  -- and with bytes
+  pub bytes-responded : ((j : ℕ) → getD page j 0 < 256) → (j : ℕ) → getD (responded g page produced q s) j 0 < 256
+  unfolding responded setRspProd setResponse
+  bytes-responded h =
+      bytes-store 4 _ 8 _ (bytes-store _ _ _ 0 (bytes-store 2 _ _ _ (bytes-store 1 _ _ 0 (bytes-store 1 _ _ _ (bytes-store 8 page _ _ h)))))

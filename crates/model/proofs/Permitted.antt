@@ -37,19 +37,19 @@ use Rattle.model.proofs.Conservation.{Sound, Carries, MayClose, MayStar
 -- ---- what the history's view says of a port that is not closed
 
 module _ (k : ℕ) (h : List Event) (opened : isClosed (book k h .state) ≡ false) where
-  view-ring : ringAt (viewAt h) k ≡ ringIn (book k h)
+  pub view-ring : ringAt (viewAt h) k ≡ ringIn (book k h)
   unfolding viewAt
   view-ring = rw opened
 
-  view-consumed : viewAt h .consumed k ≡ length (book k h .taken) % modulus
+  pub view-consumed : viewAt h .consumed k ≡ length (book k h .taken) % modulus
   unfolding viewAt
   view-consumed = rw opened
 
-  view-produced : viewAt h .produced k ≡ length (book k h .answered) % modulus
+  pub view-produced : viewAt h .produced k ≡ length (book k h .answered) % modulus
   unfolding viewAt
   view-produced = rw opened
 
-  view-inFlight : viewAt h .inFlight k ≡ length (unfinished (book k h .taken))
+  pub view-inFlight : viewAt h .inFlight k ≡ length (unfinished (book k h .taken))
   unfolding viewAt
   view-inFlight = rw opened
 
@@ -57,7 +57,7 @@ module _ (k : ℕ) (h : List Event) (opened : isClosed (book k h .state) ≡ fal
   unfolding viewAt
   view-tag t = rw opened
 
-view-state : (k : ℕ) (h : List Event) → viewAt h .state k ≡ book k h .state
+pub view-state : (k : ℕ) (h : List Event) → viewAt h .state k ≡ book k h .state
 unfolding viewAt
 view-state k h = refl
 
@@ -118,7 +118,7 @@ module _ (k : ℕ) (h : List Event) (o : Sound (book k h)) where
   unfolding asked
   asked-fits rings y = request-fits _ _ (slot-bytes (ringIn (book k h)) rings k _ y)
 
-  chosen-open : (rings : List ℕ) → Chosen (viewAt h) rings k → isClosed (book k h .state) ≡ false
+  pub chosen-open : (rings : List ℕ) → Chosen (viewAt h) rings k → isClosed (book k h .state) ≡ false
   unfolding hasWork
   chosen-open rings f = rw view-state at (open-not-closed (viewAt h .state k) (and-left _ _ (f .works)))
 

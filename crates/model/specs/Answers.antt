@@ -8,7 +8,9 @@ use Rattle.wire.specs.Part.{part}
 use Rattle.model.specs.Ring.{statusNumber}
 use Rattle.model.specs.Calls.{Call, Open, Close, Turn, Complete, Effect}
 use Rattle.model.specs.Plan.{planWords}
+use Rattle.model.specs.declared.Collected.{Collected}
 use Rattle.model.specs.declared.Completed.{Completed}
+use Rattle.model.specs.declared.Put.{Put}
 use Rattle.model.specs.declared.Reply.{Reply}
 use Rattle.model.specs.declared.Status.{Status}
 use Rattle.model.specs.declared.Turned.{Turned}
@@ -88,3 +90,26 @@ turnLeft (Turned.Answered p n z y) lent extents = turnAnswer (turnedWords (Turne
 abbrev pub doneLeft : Completed → (lent : List ℕ) → List ℕ
 doneLeft (Completed.Refused n) lent = lent
 doneLeft (Completed.Done p z y) lent = doneAnswer (completedWords (Completed.Done p z y))
+
+-- ---- the guest's half
+
+-- what putting and collecting return (rules 16.3 and 16.10)
+abbrev pub putNumber : Put → ℕ
+putNumber (Put.Refused n) = n
+putNumber (Put.Done y) = 0
+
+abbrev pub collectedNumber : Collected → ℕ
+collectedNumber (Collected.Refused n) = n
+collectedNumber Collected.Nothing = 0
+collectedNumber (Collected.Response q z) = 0
+
+-- The words lent for their answers, after them; a refusal leaves them. Putting answers one: whether to notify (rule 16.18).
+abbrev pub putLeft : Put → (lent : List ℕ) → List ℕ
+putLeft (Put.Refused n) lent = lent
+putLeft (Put.Done y) lent = yesNo y ∷ []
+
+-- Collecting answers four: whether there is a response, its id, operation and status, or zeros (rule 16.19).
+abbrev pub collectedLeft : Collected → (lent : List ℕ) → List ℕ
+collectedLeft (Collected.Refused n) lent = lent
+collectedLeft Collected.Nothing lent = replicate 4 0
+collectedLeft (Collected.Response q z) lent = 1 ∷ q .id ∷ q .operation ∷ z ∷ []

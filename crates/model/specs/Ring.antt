@@ -30,6 +30,7 @@ rspProdAt = 8
 abbrev pub rspEventAt : ℕ
 rspEventAt = 12
 
+-- what the backend reads of them and writes,
 unfoldable pub reqProd : List ℕ → ℕ
 reqProd page = load 4 page reqProdAt
 
@@ -41,6 +42,19 @@ setRspProd page v = store 4 page rspProdAt v
 
 unfoldable pub rspEvent : List ℕ → ℕ
 rspEvent page = load 4 page rspEventAt
+
+-- and the guest
+unfoldable pub setReqProd : List ℕ → ℕ → List ℕ
+setReqProd page v = store 4 page reqProdAt v
+
+unfoldable pub reqEvent : List ℕ → ℕ
+reqEvent page = load 4 page reqEventAt
+
+unfoldable pub rspProd : List ℕ → ℕ
+rspProd page = load 4 page rspProdAt
+
+unfoldable pub setRspEvent : List ℕ → ℕ → List ℕ
+setRspEvent page v = store 4 page rspEventAt v
 
 -- the bytes of the largest slot (rule 2.3)
 abbrev pub slotBytes : ℕ

@@ -24,3 +24,14 @@ pub const TURN_EXTENTS_END: usize = TURN_EXTENTS + PLAN_WORDS;
 
 // The words of a completion's answer (rule 14.8).
 pub const DONE_WORDS: usize = 4;
+
+// What a guest lends: its page, its own memory, a request, and words for the two answers (rules 16.1 and 16.16 to 16.19).
+pub const GUEST_PAGE_BYTES: usize = 4096;
+
+pub const GUEST_WORDS: usize = 67;
+
+pub const REQUEST_WORDS: usize = 41;
+
+pub const PUT_WORDS: usize = 1;
+
+pub const COLLECT_WORDS: usize = 4;

@@ -156,6 +156,19 @@ pub enum Completed {
     Done(PortId, Status, bool),
 }
 
+// The answer of the guest's putting: whether to notify the backend (rule 16.9).
+pub enum Put {
+    Refused(u32),
+    Done(bool),
+}
+
+// The answer of the guest's collecting: the id and operation of a response, and the 16 bits of its status (rule 16.14).
+pub enum Collected {
+    Refused(u32),
+    Nothing,
+    Response(Pair, u16),
+}
+
 // A port's counters (meter): requests taken, and answers by their status (rule 15.1). The host's record, laid out as in C.
 #[repr(C)]
 pub struct Counters {

@@ -1,4 +1,4 @@
-// The numbers that calls are refused with (rules 7.1 to 7.6).
+// The numbers that calls are refused with (rules 7.1 to 7.6, 7.11 to 7.15, and 16.3 and 16.10 of the guest's half).
 
 pub const WRONG_LENGTH: u32 = 1;
 
@@ -22,3 +22,14 @@ pub const SHEET_TEXT: u32 = 13;
 pub const SHEET_NUMBER: u32 = 14;
 
 pub const SHEET_MISSING: u32 = 15;
+
+// Those of the guest's half.
+pub const RING_FULL: u32 = 31;
+
+pub const ID_OUTSTANDING: u32 = 32;
+
+pub const BAD_REQUEST: u32 = 33;
+
+pub const BAD_RSP_PROD: u32 = 34;
+
+pub const NOT_OUTSTANDING: u32 = 35;

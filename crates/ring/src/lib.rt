@@ -9,5 +9,6 @@ pub use index::distance;
 pub use index::next_index;
 pub use page::arm;
 pub use page::req_prod;
+pub use slot::copy_bytes;
 pub use slot::copy_slot;
 pub use slot::slot_at;

@@ -22,15 +22,15 @@ pub fn slot_at(abi: Abi, index: u32) -> usize
     HEADER_BYTES + slot_size(abi) * (index % ring_size(abi)) as usize
 }
 
-// Copies n bytes of the rings, from `from` on, to place `to` of a request's copy. Each is read once, since another domain may write it in the meantime.
+// Copies n bytes of a source, from `from` on, to place `to` of a copy. Each is read once, since another domain may write it in the meantime.
 // This says how the source reads. What the compiled code loads no proof shows: a compiler may load from the page again. tests/once looks at the archive.
-fn copy_bytes(rings: &[u8], from: usize, copy: &mut [u8], to: usize, n: usize)
-    requires { ⌜ (from + n ≤ length (now rings)) × (to + n ≤ length (now copy)) ⌝ }
-    ensures { λ _. ⌜ Copied n (now (rings .entry)) from (now (copy .entry)) to (now (copy .exit)) ⌝ }
+pub fn copy_bytes(source: &[u8], from: usize, copy: &mut [u8], to: usize, n: usize)
+    requires { ⌜ (from + n ≤ length (now source)) × (to + n ≤ length (now copy)) ⌝ }
+    ensures { λ _. ⌜ Copied n (now (source .entry)) from (now (copy .entry)) to (now (copy .exit)) ⌝ }
 {
     let mut i = 0;
     while i < n {
-        copy[to + i] = rings[from + i];
+        copy[to + i] = source[from + i];
         i += 1;
     }
 }

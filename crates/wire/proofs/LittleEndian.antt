@@ -7,7 +7,7 @@ use native.Mathlib.Nat.{pow-suc, pow-succ', one-le-pow, mod-one, mod-lt, mod-eq-
 use native.Mathlib.Nat.{add-zero, add-suc, add-comm, add-assoc, add-mul, mul-assoc, mul-comm}
 use native.Mathlib.Omega.{arith}
 use lib.ListN.{length, getD, set, length-set}
-use lib.Seq.{getD-set-same, getD-set-other}
+use lib.Seq.{set-out, getD-set-same, getD-set-other}
 use lib.Arith.{digits-lt, digits-div, mod-mul}
 use lib.Pow.{pow-add}
 use Rattle.wire.specs.LittleEndian.{load, store}
@@ -123,3 +123,21 @@ pub load-lt : (n : ℕ) (b : List ℕ) (i : ℕ) → ((j : ℕ) → getD b j 0 <
 unfolding load
 load-lt zero b i h = omega arith
 load-lt (suc n) b i h = rw (add-comm (load n b i), pow-succ' 256 n) (digits-lt (h (i + n)) (load-lt n b i h))
+
+-- a byte put into bytes below 256
+bytes-set : (b : List ℕ) (i x : ℕ) → ((j : ℕ) → getD b j 0 < 256) → x < 256 → (j : ℕ) → getD (set b i x) j 0 < 256
+bytes-set b i x h l j =
+    elim (decLt i (length b)) [
+      | no o ↦ rw (set-out b i x (omega arith)) (h j)
+      | yes o ↦
+          elim (ℕ-discrete j i) [
+            | yes e ↦ rw (e, getD-set-same b i x 0 o) l
+            | no e ↦ rw (getD-set-other b i j x 0 e) (h j)
+          ]
+    ]
+
+-- a store keeps every byte below 256
+pub bytes-store : (n : ℕ) (b : List ℕ) (i v : ℕ) → ((j : ℕ) → getD b j 0 < 256) → (j : ℕ) → getD (store n b i v) j 0 < 256
+unfolding store
+bytes-store zero b i v h j = h j
+bytes-store (suc n) b i v h j = bytes-set (store n b i v) (i + n) (v / 256 ^ n % 256) (bytes-store n b i v h) (mod-lt (v / 256 ^ n) (omega arith)) j

@@ -35,6 +35,14 @@ part-part m n b i j h =
     let r : q < m = omega (arith, simp (length-take, length-drop) at l) in
     getD-part m (part n b i) j q r ∙ getD-part n b i (j + q) (omega arith) ∙ rw (← add-assoc i j q) (sym (getD-part m b (i + j) q r)))
 
+-- the same part of two lists that agree on its bytes
+pub part-agree : (n : ℕ) (a b : List ℕ) (i : ℕ) → length a ≡ length b → ((q : ℕ) → q < n → getD a (i + q) 0 ≡ getD b (i + q) 0) → part n a i ≡ part n b i
+unfolding part
+part-agree n a b i e f =
+    ext-getD 0 _ _ (simp (length-take, length-drop, e)) (λ q k.
+    let r : q < n = omega (arith, simp (length-take, length-drop) at k) in
+    getD-part n a i q r ∙ f q r ∙ sym (getD-part n b i q r))
+
 -- ---- a part put back
 
 -- a part put in place of as many bytes
@@ -71,21 +79,13 @@ module _ (n : ℕ) (b : List ℕ) (i : ℕ) (p : List ℕ) (h : i + n ≤ length
       ∙ getD-drop i b (n + y) 0
       ∙ ap (λ (z : ℕ). getD b z 0) f
 
-  -- parts that agree byte for byte
-  same-part : (m j : ℕ) → ((q : ℕ) → q < m → getD (setPart n b i p) (j + q) 0 ≡ getD b (j + q) 0) → part m (setPart n b i p) j ≡ part m b j
-  unfolding part
-  same-part m j f =
-      ext-getD 0 _ _ (simp (length-take, length-drop, length-setPart)) (λ q k.
-      let r : q < m = omega (arith, simp (length-take, length-drop) at k) in
-      getD-part m (setPart n b i p) j q r ∙ f q r ∙ sym (getD-part m b j q r))
-
   -- a part that ends where it begins, or before, is as before
   pub part-setPart-below : (m j : ℕ) → j + m ≤ i → part m (setPart n b i p) j ≡ part m b j
-  part-setPart-below m j o = same-part m j (λ q k. getD-setPart-below (j + q) (omega arith))
+  part-setPart-below m j o = part-agree m (setPart n b i p) b j length-setPart (λ q k. getD-setPart-below (j + q) (omega arith))
 
   -- a part that begins where it ends, or after, is as before
   pub part-setPart-above : (m j : ℕ) → i + n ≤ j → part m (setPart n b i p) j ≡ part m b j
-  part-setPart-above m j o = same-part m j (λ q k. getD-setPart-above (j + q) (omega arith))
+  part-setPart-above m j o = part-agree m (setPart n b i p) b j length-setPart (λ q k. getD-setPart-above (j + q) (omega arith))
 
 -- putting back what was taken changes nothing
 pub setPart-part : (n : ℕ) (b : List ℕ) (i : ℕ) → setPart n b i (part n b i) ≡ b
@@ -118,6 +118,15 @@ setPart-store (suc w) n b o i v l h =
 
 -- ---- bytes below 256
 
+bytes-append : (s t : List ℕ) → ((j : ℕ) → getD s j 0 < 256) → ((j : ℕ) → getD t j 0 < 256) → (j : ℕ) → getD (s ++ t) j 0 < 256
+bytes-append s t hs ht j =
+    elim (decLt j (length s)) [
+      | yes o ↦ rw (List·getD-append s t 0 j o) (hs j)
+      | no o ↦
+          let e : j ≡ length s + (j - length s) = omega arith in
+          rw e (rw (getD-append-add s t (j - length s) 0) (ht (j - length s)))
+    ]
+
 bytes-take : (n : ℕ) (b : List ℕ) → ((j : ℕ) → getD b j 0 < 256) → (j : ℕ) → getD (take n b) j 0 < 256
 bytes-take n b h j =
     elim (decLt j n) [
@@ -132,3 +141,10 @@ bytes-drop n b h j = rw (getD-drop n b j 0) (h (n + j))
 pub bytes-part : (n : ℕ) (b : List ℕ) (i : ℕ) → ((j : ℕ) → getD b j 0 < 256) → (j : ℕ) → getD (part n b i) j 0 < 256
 unfolding part
 bytes-part n b i h = bytes-take n (drop i b) (bytes-drop i b h)
+
+-- and the whole's after a part is put, where the part's are too
+pub bytes-setPart : (n : ℕ) (b : List ℕ) (i : ℕ) (p : List ℕ) → ((j : ℕ) → getD b j 0 < 256) → ((j : ℕ) → getD p j 0 < 256)
+    → (j : ℕ) → getD (setPart n b i p) j 0 < 256
+unfolding setPart
+bytes-setPart n b i p h k =
+    bytes-append (take i b) (p ++ drop n (drop i b)) (bytes-take i b h) (bytes-append p (drop n (drop i b)) k (bytes-drop n (drop i b) (bytes-drop i b h)))

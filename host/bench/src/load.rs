@@ -1,11 +1,11 @@
 //! What the programs are measured on: full rings of reads.
 
-use frontend::{Request, Segment};
+use frontend::Request;
 use kernelharp::layout::{
     page_mut, write_u32, GRANTS_BYTES, HEADER_BYTES, REQ_PROD, RINGS_BYTES, RING_BYTES, RSP_EVENT,
     SLOTS,
 };
-use kernelharp::{Abi, Operation, Sheet};
+use kernelharp::{Abi, Operation, Segment, Sheet};
 use std::fmt;
 
 const READ: u8 = Operation::Read as u8;

@@ -1,16 +1,20 @@
 //! The benchmark: the archive's calls and the second program's, on full rings of reads and on node
-//! sheets with numbers.
+//! sheets with numbers; and the archive's guest's half.
 //!
 //! - `bench times`: nanoseconds a request of both programs, over many runs of `bench sample LOAD`.
 //! - `bench numbers`: nanoseconds an opening, over many runs of `bench sample DIGITS`.
-//! - `bench memory`: what the host lends, and the stack of a call.
+//! - `bench guest`: nanoseconds a put and a collect, over many runs of `bench sample guest RING`.
+//! - `bench memory`: what host and guest lend, and the stack of a call.
 //! - `bench rounds archive|metered|second LOAD ROUNDS`: rounds of one program, to count its
 //!   instructions; `metered` is the archive with a meter to each port.
 //! - `bench rounds archive DIGITS ROUNDS`: rounds of eight openings, likewise.
+//! - `bench rounds guest RING ROUNDS`: rounds of a ring filled and emptied by a guest, likewise.
 //!
 //! LOAD is SEGMENTS PORTS LAYOUT, where the layout of the guests is `64-bit`, `32-bit`, or `both` by
-//! turns. DIGITS is how many the number of sectors has. `tests/bench` runs all of it.
+//! turns. DIGITS is how many the number of sectors has. RING is SEGMENTS REQUESTS ORDER: so many
+//! requests are put in a row and answered `as-put` or in `reverse`. `tests/bench` runs all of it.
 
+mod guest;
 mod load;
 mod numbers;
 mod programs;
@@ -27,6 +31,13 @@ fn main() {
     let arguments: Vec<&str> = arguments.iter().map(String::as_str).collect();
     match arguments[..] {
         ["times"] => times::print(),
+        ["guest"] => guest::print(),
+        ["sample", "guest", segments, requests, order] => {
+            guest::sample(ring(segments, requests, order))
+        }
+        ["rounds", "guest", segments, requests, order, rounds] => {
+            guest::run(ring(segments, requests, order), number(rounds))
+        }
         ["sample", segments, ports, layout] => times::sample(load(segments, ports, layout)),
         ["numbers"] => numbers::print(),
         ["sample", digits] => numbers::sample(number(digits)),
@@ -42,7 +53,7 @@ fn main() {
             }
         }
         _ => panic!(
-            "times, numbers, memory, sample LOAD|DIGITS, rounds archive|metered|second LOAD ROUNDS, or rounds archive DIGITS ROUNDS; LOAD is SEGMENTS PORTS LAYOUT"
+            "times, numbers, guest, memory, sample LOAD|DIGITS|guest RING, rounds archive|metered|second LOAD ROUNDS, rounds archive DIGITS ROUNDS, or rounds guest RING ROUNDS; LOAD is SEGMENTS PORTS LAYOUT, RING is SEGMENTS REQUESTS ORDER"
         ),
     }
 }
@@ -54,6 +65,11 @@ fn number(text: &str) -> usize {
 fn load(segments: &str, ports: &str, layout: &str) -> Load {
     let layout = Layout::of(layout).expect("64-bit, 32-bit or both");
     Load::new(number(segments), number(ports), layout)
+}
+
+fn ring(segments: &str, requests: &str, order: &str) -> guest::Load {
+    let order = guest::Order::of(order).expect("as-put or reverse");
+    guest::Load::new(number(segments), number(requests), order)
 }
 
 fn run<P: Program>(mut bench: Bench<P>, rounds: usize) {

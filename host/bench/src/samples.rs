@@ -1,4 +1,5 @@
-//! Samples: both programs in one process, in alternating rounds, over several processes.
+//! Samples: both programs in one process, in alternating rounds, or one program alone, over several
+//! processes.
 //!
 //! A call's time differs from one run of the same program to the next by more than from round to
 //! round. So the rounds are spread over several processes. Each has one load alone, for in a mixture
@@ -49,7 +50,18 @@ pub fn sample<A: Timed<CELLS>, S: Timed<CELLS>, const CELLS: usize>(
         assert!(agree(&archive, &second), "both did the same");
     }
     let medians = [ours, other].map(|samples| medians(&samples[warm_up..]));
-    let cells: Vec<String> = medians.iter().flatten().map(f64::to_string).collect();
+    print_numbers(&medians.concat());
+}
+
+/// One process of a program alone: its medians, likewise.
+pub fn sample_alone<P: Timed<CELLS>, const CELLS: usize>(mut program: P, rounds: usize) {
+    let warm_up = rounds / 10;
+    let samples: Vec<_> = (0..warm_up + rounds).map(|_| program.round()).collect();
+    print_numbers(&medians(&samples[warm_up..]));
+}
+
+fn print_numbers(numbers: &[f64]) {
+    let cells: Vec<String> = numbers.iter().map(f64::to_string).collect();
     println!("{}", cells.join(" "));
 }
 
@@ -65,24 +77,44 @@ fn other_process(load: &[String]) -> Vec<f64> {
     cells.map(|cell| cell.parse().expect("a number")).collect()
 }
 
+/// What the processes of each load print, a row to a process.
+fn rows<const WORDS: usize, const LOADS: usize>(
+    loads: &[[String; WORDS]; LOADS],
+) -> [Vec<Vec<f64>>; LOADS] {
+    let mut rows = [const { Vec::new() }; LOADS];
+    for _ in 0..PROCESSES {
+        for (rows, load) in rows.iter_mut().zip(loads) {
+            rows.push(other_process(load));
+        }
+    }
+    rows
+}
+
+fn cells(medians: &[f64]) -> String {
+    let cells: Vec<String> = medians.iter().map(|cell| format!("{cell:.1}")).collect();
+    cells.join(" | ")
+}
+
+/// A line to a load of one program, which is given by the words that name it: those behind the first,
+/// and the medians over the processes.
+pub fn print_lines_alone<const WORDS: usize, const LOADS: usize>(loads: [[String; WORDS]; LOADS]) {
+    for (rows, load) in rows(&loads).iter().zip(&loads) {
+        println!("| {} | {} |", load[1..].join(" | "), cells(&medians(rows)));
+    }
+}
+
 /// A line to a load, which is given by the words that name it: the medians over the processes, the
 /// ratio of both programs' last cells, and the lowest and the highest ratio of a single process.
 pub fn print_lines<const WORDS: usize, const LOADS: usize>(loads: [[String; WORDS]; LOADS]) {
-    let processes = 0..PROCESSES;
-    let samples: Vec<_> = processes
-        .map(|_| loads.each_ref().map(|load| other_process(load)))
-        .collect();
-    for (index, load) in loads.iter().enumerate() {
-        let rows: Vec<&Vec<f64>> = samples.iter().map(|sample| &sample[index]).collect();
+    for (rows, load) in rows(&loads).iter().zip(&loads) {
         let ratio = |cells: &[f64]| cells[cells.len() / 2 - 1] / cells[cells.len() - 1];
         let ratios = || rows.iter().map(|row| ratio(row));
         let (lowest, highest) = (
             ratios().fold(f64::MAX, f64::min),
             ratios().fold(0.0, f64::max),
         );
-        let medians = medians(&rows);
-        let cells: Vec<String> = medians.iter().map(|cell| format!("{cell:.1}")).collect();
-        let (load, cells, ratio) = (load.join(" | "), cells.join(" | "), ratio(&medians));
+        let medians = medians(rows);
+        let (load, cells, ratio) = (load.join(" | "), cells(&medians), ratio(&medians));
         println!("| {load} | {cells} | {ratio:.2} | {lowest:.2} to {highest:.2} |");
     }
 }

@@ -1,8 +1,13 @@
 //! Memory: the stack that a call of the archive needs, found by running it on a painted one.
 
+use crate::guest::{Calls, Load, Order, Ring};
 use generate::{run, Core};
-use kernelharp::words::{DoneWords, TurnWords, DONE_WORDS, TURN_WORDS};
-use kernelharp::{Completion, Memory, Meter, MEMORY_WORDS};
+use kernelharp::layout::SLOTS;
+use kernelharp::words::{
+    CollectWords, DoneWords, PutWords, RequestWords, TurnWords, DONE_WORDS, REQUEST_WORDS,
+    TURN_WORDS,
+};
+use kernelharp::{Completion, GuestMemory, Memory, Meter, GUEST_WORDS, MEMORY_WORDS};
 use second::Backend;
 use std::arch::asm;
 
@@ -16,38 +21,37 @@ extern "C" {
     fn kh_close();
     fn kh_turn();
     fn kh_complete();
+    fn kh_guest_put();
+    fn kh_guest_collect();
 }
 
-/// Backend memory whose calls run on a stack of their own.
-struct Painted {
-    memory: Memory,
-    stack: Box<Stack>,
-    /// The most bytes of stack that open, close, turn and complete wrote.
-    deepest: [usize; 4],
-}
+/// Rounds of a guest on a ring.
+const ROUNDS: usize = 100;
 
 #[repr(align(16))]
 struct Stack([u64; STACK_WORDS]);
 
-impl Painted {
-    fn new() -> Painted {
-        Painted {
-            memory: Memory::new().expect("an archive of this package"),
-            stack: Box::new(Stack([PAINT; STACK_WORDS])),
-            deepest: [0; 4],
-        }
+impl Stack {
+    fn new() -> Box<Stack> {
+        Box::new(Stack([PAINT; STACK_WORDS]))
     }
 
-    /// Calls one of the four functions; the bytes that it wrote below its arguments are noted.
+    /// Calls a function on this stack. Gives what it returned, and notes the bytes that it wrote below
+    /// its arguments.
     ///
     /// # Safety
     /// The function takes at most eight arguments, whole numbers or pointers, and may be called with
-    /// those named after the memory's own pointer.
-    unsafe fn call(&mut self, which: usize, arguments: [u64; 7]) -> u32 {
-        let function = [kh_open, kh_close, kh_turn, kh_complete][which];
+    /// these.
+    unsafe fn call(
+        &mut self,
+        function: unsafe extern "C" fn(),
+        memory: *mut u64,
+        arguments: [u64; 7],
+        deepest: &mut usize,
+    ) -> u32 {
         let [second, third, fourth, fifth, sixth, seventh, eighth] = arguments;
         let top = STACK_WORDS - 2;
-        self.stack.0[top..].copy_from_slice(&[seventh, eighth]);
+        self.0[top..].copy_from_slice(&[seventh, eighth]);
         let code: u64;
         // SAFETY: as the function's own; the System V calling convention finds the first six
         // arguments in registers and the last two on the stack, which is ours alone and put back.
@@ -58,25 +62,113 @@ impl Painted {
                 "call rax",
                 "mov rsp, r12",
                 inlateout("rax") function => code,
-                in("rdi") self.memory.words_mut().as_mut_ptr(),
+                in("rdi") memory,
                 in("rsi") second,
                 in("rdx") third,
                 in("rcx") fourth,
                 in("r8") fifth,
                 in("r9") sixth,
-                in("r13") &raw mut self.stack.0[top],
+                in("r13") &raw mut self.0[top],
                 out("r12") _,
                 clobber_abi("C"),
             );
         }
-        let stack = &mut self.stack.0[..top];
+        let stack = &mut self.0[..top];
         let lowest = stack.iter().position(|word| *word != PAINT);
         let lowest = lowest.expect("a return address at least");
         assert!(lowest > 0, "the stack is deep enough");
         stack[lowest..].fill(PAINT);
-        self.deepest[which] = self.deepest[which].max(8 * (top - lowest));
+        *deepest = (*deepest).max(8 * (top - lowest));
         code as u32
     }
+}
+
+/// Backend memory whose calls run on a stack of their own.
+struct Painted {
+    memory: Memory,
+    stack: Box<Stack>,
+    /// The most bytes of stack that open, close, turn and complete wrote.
+    deepest: [usize; 4],
+}
+
+impl Painted {
+    fn new() -> Painted {
+        Painted {
+            memory: Memory::new().expect("an archive of this package"),
+            stack: Stack::new(),
+            deepest: [0; 4],
+        }
+    }
+
+    /// Calls one of the four functions.
+    ///
+    /// # Safety
+    /// The function may be called with the arguments named, after the memory's own pointer.
+    unsafe fn call(&mut self, which: usize, arguments: [u64; 7]) -> u32 {
+        let function = [kh_open, kh_close, kh_turn, kh_complete][which];
+        let (memory, deepest) = (self.memory.words_mut(), &mut self.deepest[which]);
+        // SAFETY: as this function's own.
+        unsafe {
+            self.stack
+                .call(function, memory.as_mut_ptr(), arguments, deepest)
+        }
+    }
+}
+
+/// Guest memory, likewise.
+struct PaintedGuest {
+    memory: GuestMemory,
+    stack: Box<Stack>,
+    /// The most bytes of stack that put and collect wrote.
+    deepest: [usize; 2],
+}
+
+impl Calls for PaintedGuest {
+    fn new() -> PaintedGuest {
+        PaintedGuest {
+            memory: GuestMemory::new().expect("an archive of this package"),
+            stack: Stack::new(),
+            deepest: [0; 2],
+        }
+    }
+
+    fn put(&mut self, page: &mut [u8], request: &RequestWords, answer: &mut PutWords) -> u32 {
+        let ([page, bytes], [request, _]) = (lent_mut(page), lent(request));
+        let (memory, [answer, _]) = (self.memory.words_mut(), lent_mut(answer));
+        let arguments = [page, bytes, request, answer, 0, 0, 0];
+        let deepest = &mut self.deepest[0];
+        // SAFETY: kh_guest_put's arguments; the page's pointer and length are one slice's, request and
+        // answer have their fixed lengths, and all that is written is lent by &mut.
+        unsafe {
+            self.stack
+                .call(kh_guest_put, memory.as_mut_ptr(), arguments, deepest)
+        }
+    }
+
+    fn collect(&mut self, page: &mut [u8], answer: &mut CollectWords) -> u32 {
+        let ([page, bytes], [answer, _]) = (lent_mut(page), lent_mut(answer));
+        let (memory, deepest) = (self.memory.words_mut(), &mut self.deepest[1]);
+        let arguments = [page, bytes, answer, 0, 0, 0, 0];
+        // SAFETY: kh_guest_collect's arguments, as in `put`.
+        unsafe {
+            self.stack
+                .call(kh_guest_collect, memory.as_mut_ptr(), arguments, deepest)
+        }
+    }
+}
+
+/// The most bytes of stack that put and collect write, over rings filled and emptied in either order.
+fn guest_depths() -> [usize; 2] {
+    let mut deepest = [0; 2];
+    for order in [Order::AsPut, Order::Reverse] {
+        for segments in [1, 11] {
+            let mut ring = Ring::<PaintedGuest>::new(Load::new(segments, SLOTS, order));
+            (0..ROUNDS).for_each(|_| ring.round());
+            let depths = ring.calls().deepest;
+            deepest = std::array::from_fn(|call| depths[call].max(deepest[call]));
+        }
+    }
+    deepest
 }
 
 /// Address and length of what a call may read.
@@ -132,31 +224,32 @@ impl Core for Painted {
     }
 }
 
-/// The sizes of what the host lends, and the stack of each call over a random list of calls.
+/// The sizes of what host and guest lend, and the stack of each call: of a backend's over a random list
+/// of calls, of a guest's over rings that are filled and emptied.
 pub fn print() {
     let mut painted = Painted::new();
     let run = run(&mut [&mut painted, &mut Backend::new()], SEED, CALLS);
     run.unwrap_or_else(|failure| panic!("{failure}"));
     let [open, close, turn, complete] = painted.deepest;
+    let [put, collect] = guest_depths();
     println!("| memory | bytes |");
     println!("|---|---|");
-    println!(
-        "| backend memory, {MEMORY_WORDS} words | {} |",
-        8 * MEMORY_WORDS
-    );
-    println!(
-        "| a turn's answer, {TURN_WORDS} words | {} |",
-        8 * TURN_WORDS
-    );
-    println!(
-        "| a completion's answer, {DONE_WORDS} words | {} |",
-        8 * DONE_WORDS
-    );
+    for (name, words) in [
+        ("backend memory", MEMORY_WORDS),
+        ("a turn's answer", TURN_WORDS),
+        ("a completion's answer", DONE_WORDS),
+        ("guest memory", GUEST_WORDS),
+        ("a request to be put", REQUEST_WORDS),
+    ] {
+        println!("| {name}, {words} words | {} |", 8 * words);
+    }
     for (name, bytes) in [
         ("turn", turn),
         ("completion", complete),
         ("open", open),
         ("close", close),
+        ("put", put),
+        ("collect", collect),
     ] {
         println!("| stack of a call: {name} | {bytes} |");
     }

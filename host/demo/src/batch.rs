@@ -3,10 +3,10 @@
 use crate::link::{Frames, FRAME_SECTORS, NO_FRAME, READ_WRITE_FRAMES};
 use crate::pattern::{Model, SECTOR};
 use crate::profile::Profile;
-use frontend::{Request, Segment};
+use crate::wish::{Wish, With};
 use generate::Random;
 use kernelharp::layout::{EXTENTS, SLOTS};
-use kernelharp::{Operation, Status};
+use kernelharp::{Abi, Operation, Segment, Status};
 use std::ops::Range;
 
 pub const READ: u8 = Operation::Read as u8;
@@ -26,8 +26,10 @@ pub const MOST_SECTORS: u64 = (EXTENTS * FRAME_SECTORS) as u64;
 
 /// A request and what is due for it.
 pub struct Job {
-    pub request: Request,
+    pub wish: Wish,
     pub status: Status,
+    /// Whether it fails a check that needs nothing of the disk and of what is granted.
+    pub malformed: bool,
     /// Of a read: where the disk's sectors are due, and which.
     read: Option<ReadBack>,
 }
@@ -113,8 +115,8 @@ impl Batch<'_> {
 
     pub fn add_flush(&mut self) {
         let status = self.status_due(FLUSH, false);
-        let request = Request::segmented(FLUSH, self.id(), 0, &[]);
-        self.push(request, status, None);
+        let flush = self.wish(FLUSH, 0, With::Segments(vec![]));
+        self.push(flush, status, None);
     }
 
     pub fn is_full(&self) -> bool {
@@ -133,11 +135,6 @@ impl Batch<'_> {
         first as u32..(first + EXTENTS) as u32
     }
 
-    fn id(&mut self) -> u64 {
-        *self.next_id += 1;
-        *self.next_id
-    }
-
     fn add_somewhere(&mut self, operation: u8) {
         let segments = self.any_segments(operation);
         let writes = operation != READ;
@@ -153,12 +150,12 @@ impl Batch<'_> {
         if status == OKAY && overlap(&self.profile.bad, &(start..start + count)) {
             status = ERROR;
         }
-        let request = Request::segmented(operation, self.id(), start, &segments);
+        let wish = self.wish(operation, start, With::Segments(segments.clone()));
         if operation == READ {
             let versions = self.model.versions(start, count).to_vec();
             let versions = (status == OKAY).then_some(versions);
             self.push_read(
-                request,
+                wish,
                 status,
                 ReadBack {
                     segments,
@@ -168,7 +165,7 @@ impl Batch<'_> {
             );
         } else {
             self.take_along(start, &segments, status == OKAY);
-            self.push(request, status, None);
+            self.push(wish, status, None);
         }
         if operation == BARRIER && status == OKAY {
             self.touched.clear();
@@ -205,19 +202,26 @@ impl Batch<'_> {
         } else if status == OKAY {
             self.model.set(start, count, 0);
         }
-        let request = Request::discard(self.id(), secure, start, count);
-        self.push(request, status, None);
+        let with = With::Sectors {
+            sectors: count,
+            secure,
+        };
+        let discard = self.wish(DISCARD, start, with);
+        self.push(discard, status, None);
         self.touched.push((start..start + count, true));
     }
 
     /// Adds a read that fails a check: nothing may be moved.
     fn add_spoiled(&mut self) {
         let (mut segments, sectors) = (self.any_segments(READ), self.model.sectors());
-        let (mut operation, mut start, mut n) = (READ, 0, segments.len() as u8);
-        let whole = segments.clone();
-        match self.random.below(7) {
-            0 => operation = self.random.pick(&[4, 6, 255]),
-            1 => n = self.random.pick(&[0, 12, 255]),
+        let (mut operation, mut start) = (READ, 0);
+        let (whole, fault) = (segments.clone(), self.random.below(7));
+        match fault {
+            // The types of the guest's half have no such request.
+            0 if self.profile.sheet.abi == Abi::Bits32 => {
+                operation = self.random.pick(&[4, 6, 255])
+            }
+            1 => segments = vec![segments[0]; self.random.pick(&[0, 12, 255])],
             2 => (segments[0].first, segments[0].last) = self.random.pick(&[(3, 2), (0, 8)]),
             3 => segments[0].frame = self.random.pick(&[NO_FRAME, 1024, u32::MAX]),
             // The host may only read what lies there.
@@ -235,14 +239,25 @@ impl Batch<'_> {
         } else {
             NOT_SUPPORTED
         };
-        let mut request = Request::segmented(operation, self.id(), start, &segments);
-        request.count_or_flag = n;
+        let wish = self.wish(operation, start, With::Segments(segments));
         let untouched = ReadBack {
             segments: whole,
             start,
             versions: None,
         };
-        self.push_read(request, status, untouched);
+        self.push_read(wish, status, untouched);
+        let spoiled = self.jobs.last_mut().expect("it was pushed");
+        spoiled.malformed = matches!(fault, 1 | 2) || operation != READ;
+    }
+
+    fn wish(&mut self, operation: u8, start: u64, with: With) -> Wish {
+        *self.next_id += 1;
+        Wish {
+            operation,
+            id: *self.next_id,
+            start,
+            with,
+        }
     }
 
     /// What a guest that knows its disk expects of a sound request.
@@ -261,19 +276,20 @@ impl Batch<'_> {
         }
     }
 
-    fn push_read(&mut self, request: Request, status: Status, read: ReadBack) {
+    fn push_read(&mut self, wish: Wish, status: Status, read: ReadBack) {
         for segment in &read.segments {
             for place in 0..FRAME_SECTORS {
                 self.frames.write(segment.frame, place, &FILLER);
             }
         }
-        self.push(request, status, Some(read));
+        self.push(wish, status, Some(read));
     }
 
-    fn push(&mut self, request: Request, status: Status, read: Option<ReadBack>) {
+    fn push(&mut self, wish: Wish, status: Status, read: Option<ReadBack>) {
         self.jobs.push(Job {
-            request,
+            wish,
             status,
+            malformed: false,
             read,
         });
     }

@@ -1,13 +1,15 @@
 //! A guest that keeps the rules of the ring and checks everything it gets back.
 
 use crate::batch::{Batch, Job, READ, WRITE};
+use crate::front::{Front, Response};
 use crate::link::{Link, State, BOUND};
 use crate::pattern::Model;
 use crate::profile::{Profile, Role};
 use crate::report::Checks;
-use frontend::{EventChannel, Frontend, Response};
+use frontend::EventChannel;
 use generate::Random;
 use kernelharp::layout::SLOTS;
+use kernelharp::Refusal;
 use std::collections::HashMap;
 use std::sync::atomic::Ordering;
 
@@ -19,7 +21,7 @@ pub struct Guest<'a> {
     profile: &'a Profile,
     link: &'a Link,
     to_host: &'a EventChannel,
-    frontend: Frontend,
+    front: Front,
     model: Model,
     random: Random,
     next_id: u64,
@@ -27,23 +29,25 @@ pub struct Guest<'a> {
 }
 
 impl<'a> Guest<'a> {
+    /// A guest with its ring set up, for a host that has not opened its port yet.
     pub fn new(
         profile: &'a Profile,
         link: &'a Link,
         to_host: &'a EventChannel,
         model: Model,
         mut random: Random,
-    ) -> Guest<'a> {
-        Guest {
+    ) -> Result<Guest<'a>, String> {
+        let front = Front::new(link.page, profile.sheet.abi);
+        Ok(Guest {
             profile,
             link,
             to_host,
-            frontend: Frontend::new(link.page, profile.sheet.abi),
+            front: front.map_err(|fault| fault.to_string())?,
             model,
             next_id: random.word(),
             random,
             checks: Checks::default(),
-        }
+        })
     }
 
     /// Lives for some rounds, then asks the host to close the port. Gives what was checked and what
@@ -104,27 +108,47 @@ impl<'a> Guest<'a> {
         make(&mut batch);
         let jobs = batch.jobs;
         assert!(jobs.len() <= SLOTS, "a round is one ring at most");
-        let mut lot = 0;
-        for (number, job) in jobs.iter().enumerate() {
-            self.frontend.put(&job.request);
-            self.checks.own.count_taken();
+        let (mut lot, all, mut due) = (0, jobs.len(), HashMap::new());
+        for (number, job) in jobs.into_iter().enumerate() {
+            if self.put(&job)? {
+                due.insert(job.wish.id, job);
+            }
             if lot == 0 {
-                lot = 1 + self.random.index(jobs.len() - number);
+                lot = 1 + self.random.index(all - number);
             }
             lot -= 1;
-            if lot == 0 && self.frontend.publish() {
+            if lot == 0 && self.front.publish() {
                 self.to_host.notify();
             }
         }
-        self.collect(jobs)
+        self.collect(due)
+    }
+
+    /// Puts a request, or sees that one is refused which no backend would carry out. Says whether a
+    /// response is due.
+    fn put(&mut self, job: &Job) -> Result<bool, String> {
+        match self.front.put(&job.wish) {
+            Ok(()) if job.malformed && self.front.is_library() => {
+                Err(format!("{} was put, and is malformed", job.wish.id))
+            }
+            Ok(()) => {
+                self.checks.own.count_taken();
+                self.checks.put_by_library += u64::from(self.front.is_library());
+                Ok(true)
+            }
+            Err(Refusal::BadRequest) if job.malformed => {
+                self.checks.refused_by_library += 1;
+                self.checks.bytes += job.check(&self.link.frames, &self.model)?;
+                Ok(false)
+            }
+            Err(refusal) => Err(format!("{} was not put: {refusal}", job.wish.id)),
+        }
     }
 
     /// Sleeps until each request has its one response, and checks it.
-    fn collect(&mut self, jobs: Vec<Job>) -> Result<(), String> {
-        let by_id = |job: Job| (job.request.id, job);
-        let mut due: HashMap<u64, Job> = jobs.into_iter().map(by_id).collect();
+    fn collect(&mut self, mut due: HashMap<u64, Job>) -> Result<(), String> {
         loop {
-            while let Some(response) = self.frontend.response() {
+            while let Some(response) = self.front.collect()? {
                 let Some(job) = due.remove(&response.id) else {
                     return Err(format!("{response:?} has no request, or a second time"));
                 };
@@ -133,7 +157,7 @@ impl<'a> Guest<'a> {
             if due.is_empty() {
                 return Ok(());
             }
-            if !self.frontend.final_check() && !self.link.to_guest.wait(BOUND) {
+            if !self.link.to_guest.wait(BOUND) {
                 return Err(format!("{} requests have no response", due.len()));
             }
         }
@@ -142,9 +166,8 @@ impl<'a> Guest<'a> {
     fn check(&mut self, job: &Job, response: &Response) -> Result<(), String> {
         let due = Response {
             id: response.id,
-            operation: job.request.operation,
+            operation: job.wish.operation,
             status: job.status as i16,
-            padding_is_zero: true,
         };
         if *response != due {
             return Err(format!("{response:?} in place of {due:?}"));

@@ -6,10 +6,10 @@ use crate::batch::{BARRIER, DISCARD, READ, WRITE};
 use crate::link::{Link, State, BOUND, READ_WRITE_FRAMES};
 use crate::pattern::Model;
 use crate::report::Checks;
-use frontend::{EventChannel, Request, Segment};
+use frontend::{EventChannel, Request};
 use generate::Random;
 use kernelharp::layout::{REQ_EVENT, REQ_PROD, RSP_EVENT, RSP_PROD};
-use kernelharp::Abi;
+use kernelharp::{Abi, Segment};
 use std::sync::atomic::Ordering;
 use std::time::Duration;
 

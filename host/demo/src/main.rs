@@ -6,6 +6,7 @@
 
 mod batch;
 mod disk;
+mod front;
 mod guest;
 mod host;
 mod hostile;
@@ -15,6 +16,7 @@ mod profile;
 mod report;
 mod run;
 mod tally;
+mod wish;
 
 use std::path::PathBuf;
 use std::process::ExitCode;
@@ -33,9 +35,12 @@ fn main() -> ExitCode {
         "Eight guests on eight disk images, {rounds} rounds, seed {seed}. Two are game boards that"
     );
     println!("roll their day at different hours, beside saved scores that must stay untouched;");
-    println!("two guests have 32-bit rings; one is hostile and comes back each time with a ring");
-    println!("of the other layout. Every id is to be answered once, every byte to be read back");
-    println!("as it was written, and every meter to count what its guest saw.");
+    println!(
+        "five guests put and collect by the library's guest's half, two have 32-bit rings and"
+    );
+    println!("a plain front end; one is hostile and comes back each time with a ring of the other");
+    println!("layout. Every id is to be answered once, every byte to be read back as it was");
+    println!("written, and every meter to count what its guest saw.");
     match demo(seed, rounds) {
         Ok(()) => ExitCode::SUCCESS,
         Err(fault) => {

@@ -23,6 +23,9 @@ pub struct Checks {
     /// Bytes of frames held against the model of the disk.
     pub bytes: u64,
     pub days_rolled: u64,
+    /// Requests that went through the library's guest's half, and those that it refused.
+    pub put_by_library: u64,
+    pub refused_by_library: u64,
 }
 
 impl Checks {
@@ -30,6 +33,8 @@ impl Checks {
         self.own.add(&other.own.0);
         self.bytes += other.bytes;
         self.days_rolled += other.days_rolled;
+        self.put_by_library += other.put_by_library;
+        self.refused_by_library += other.refused_by_library;
     }
 }
 
@@ -211,6 +216,10 @@ fn print_sums(counts: &Counts, checks: &Checks) {
     println!(
         "completions: {} done, {} doubled or late ones refused",
         total.completed, total.completions_refused
+    );
+    println!(
+        "guest's half: {} requests put and collected, {} malformed ones refused before the ring",
+        checks.put_by_library, checks.refused_by_library
     );
     println!(
         "days rolled by the boards: {}, the saved scores untouched after each",

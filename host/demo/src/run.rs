@@ -52,16 +52,17 @@ fn play(
     let (bell, mut progress) = (EventChannel::new(), Progress::new(rounds));
     let random = |part: usize| Random::new(seed.wrapping_mul(16).wrapping_add(part as u64));
     let mut host = Host::new(profiles, &links, &bell, disks, random(PORTS))?;
+    // A ring is set up before its port is opened.
+    let mut players = Vec::new();
+    for (port, model) in models.into_iter().enumerate() {
+        let (profile, link) = (&profiles[port], &links[port]);
+        players.push(Player::new(profile, link, &bell, model, random(port))?);
+    }
     let (served, ends) = thread::scope(|scope| {
-        let mut guests = Vec::new();
-        for (port, model) in models.into_iter().enumerate() {
-            let (profile, link, bell) = (&profiles[port], &links[port], &bell);
-            let random = random(port);
-            guests.push(scope.spawn(move || match profile.role {
-                Role::Hostile => Hostile::new(link, bell, profile.sheet.abi, random).run(rounds),
-                _ => Guest::new(profile, link, bell, model, random).run(rounds),
-            }));
-        }
+        let guests: Vec<_> = players
+            .into_iter()
+            .map(|player| scope.spawn(move || player.run(rounds)))
+            .collect();
         let served = host.run(&mut progress);
         let joined = guests.into_iter().map(|guest| guest.join());
         let panicked = || Err("a guest panicked".to_string());
@@ -74,6 +75,34 @@ fn play(
     served?;
     let ends: Result<Vec<End>, String> = ends.into_iter().collect();
     Ok((host.counts, ends?))
+}
+
+/// A guest of either kind.
+enum Player<'a> {
+    Sound(Guest<'a>),
+    Hostile(Hostile<'a>),
+}
+
+impl<'a> Player<'a> {
+    fn new(
+        profile: &'a Profile,
+        link: &'a Link,
+        bell: &'a EventChannel,
+        model: Model,
+        random: Random,
+    ) -> Result<Player<'a>, String> {
+        Ok(match profile.role {
+            Role::Hostile => Player::Hostile(Hostile::new(link, bell, profile.sheet.abi, random)),
+            _ => Player::Sound(Guest::new(profile, link, bell, model, random)?),
+        })
+    }
+
+    fn run(self, rounds: u64) -> Result<End, String> {
+        match self {
+            Player::Sound(guest) => guest.run(rounds),
+            Player::Hostile(hostile) => hostile.run(rounds),
+        }
+    }
 }
 
 /// What the disks hold at first: zeros, or where nothing can be written, a pattern.

@@ -33,9 +33,14 @@ impl GuestPage {
         self.store(RSP_EVENT, 1);
     }
 
+    /// The page as the library has it mapped.
+    pub fn mapping(&'static self) -> Mapping {
+        Mapping::of_atomics(&self.words)
+    }
+
     /// The page as a host maps it, for a guest of a layout.
     pub fn shared(&'static self, abi: Abi) -> SharedPage {
-        SharedPage::new(Mapping::of_atomics(&self.words), abi)
+        SharedPage::new(self.mapping(), abi)
     }
 
     /// The word at a multiple of four.

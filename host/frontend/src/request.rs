@@ -1,21 +1,10 @@
 //! Requests and responses, and how they lie in a slot.
 
-use kernelharp::layout::{read_u64, EXTENTS};
-use kernelharp::{Abi, Operation};
+use kernelharp::layout::{read_u64, SEGMENTS};
+use kernelharp::{Abi, Operation, Segment};
 
 /// The bytes of a segment (rule 2.6).
 const SEGMENT_BYTES: usize = 8;
-
-/// One segment of a request.
-#[derive(Clone, Copy, Debug, PartialEq, Eq)]
-pub struct Segment {
-    /// The frame, by its grant reference.
-    pub frame: u32,
-    /// The first sector within the frame.
-    pub first: u8,
-    /// The last sector within the frame.
-    pub last: u8,
-}
 
 /// A request, of whichever layout: that comes in with its slot.
 #[derive(Clone, Copy, Debug, PartialEq, Eq)]
@@ -29,14 +18,14 @@ pub struct Request {
     /// The first sector on the disk.
     pub start: u64,
     /// The segments, or a discard's number of sectors: what a slot ends with.
-    rest: [u8; EXTENTS * SEGMENT_BYTES],
+    rest: [u8; SEGMENTS * SEGMENT_BYTES],
 }
 
 impl Request {
     /// A read, write, barrier or flush of at most eleven segments.
     pub fn segmented(operation: u8, id: u64, start: u64, segments: &[Segment]) -> Request {
-        assert!(segments.len() <= EXTENTS, "a slot has room for eleven");
-        let mut rest = [0; EXTENTS * SEGMENT_BYTES];
+        assert!(segments.len() <= SEGMENTS, "a slot has room for eleven");
+        let mut rest = [0; SEGMENTS * SEGMENT_BYTES];
         for (place, segment) in rest.chunks_exact_mut(SEGMENT_BYTES).zip(segments) {
             place[..4].copy_from_slice(&segment.frame.to_le_bytes());
             place[4] = segment.first;

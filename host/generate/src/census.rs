@@ -8,24 +8,22 @@ mod turns;
 
 use self::classes::expected_classes;
 use self::sheets::{opened_classes, sheet_faults};
+use crate::tally::Tally;
 use crate::{Buffer, Write};
 use history::{Event, History, State};
 use kernelharp::layout::{
     page, read_u32, Abi, HEADER_BYTES, PORTS, REQ_EVENT, REQ_PROD, RING_BYTES, RSP_PROD, SLOTS,
 };
 use second::{read_sheet, Disk, Refusal};
-use std::collections::{BTreeMap, HashSet};
+use std::collections::HashSet;
 use std::fmt;
-
-/// Counts by class.
-type Counts = BTreeMap<String, u64>;
 
 /// How often each class of calls and answers occurred.
 #[derive(Debug, Default)]
 pub struct Census {
-    counts: Counts,
+    counts: Tally,
     /// Those that ports of either layout should show, by layout.
-    port_counts: [Counts; Abi::ALL.len()],
+    port_counts: [Tally; Abi::ALL.len()],
     books: [PortBooks; PORTS],
     /// The layout of the port that the last turn served.
     last_served: Option<Abi>,
@@ -49,49 +47,42 @@ impl Census {
     }
 
     /// How often each class occurred.
-    pub fn counts(&self) -> BTreeMap<String, u64> {
+    fn all(&self) -> Tally {
         let mut all = self.counts.clone();
         for (abi, counts) in Abi::ALL.into_iter().zip(&self.port_counts) {
-            let named = counts.iter();
-            all.extend(named.map(|(class, count)| (class_of(abi, class), *count)));
+            all.add_named(counts, |class| class_of(abi, class));
         }
         all
     }
 
     /// The classes that should occur in a long run and did not.
     pub fn missing(&self) -> Vec<String> {
-        let (mut classes, counts) = (expected_classes(), self.counts());
-        classes.retain(|class| !counts.contains_key(class));
-        classes
+        self.all().missing(expected_classes())
     }
 
     /// Adds another run's counts.
     pub fn add(&mut self, other: &Census) {
-        add(&mut self.counts, &other.counts);
+        self.counts.add(&other.counts);
         for (counts, others) in self.port_counts.iter_mut().zip(&other.port_counts) {
-            add(counts, others);
+            counts.add(others);
         }
     }
 
     fn tick(&mut self, class: &str) {
-        tick(&mut self.counts, class);
+        self.counts.tick(class);
     }
 
     fn tick_if(&mut self, occurred: bool, class: &str) {
-        if occurred {
-            self.tick(class);
-        }
+        self.counts.tick_if(occurred, class);
     }
 
     /// Counts a class that either layout should show.
     fn tick_of(&mut self, abi: Abi, class: &str) {
-        tick(&mut self.port_counts[abi as usize], class);
+        self.port_counts[abi as usize].tick(class);
     }
 
     fn tick_of_if(&mut self, abi: Abi, occurred: bool, class: &str) {
-        if occurred {
-            self.tick_of(abi, class);
-        }
+        self.port_counts[abi as usize].tick_if(occurred, class);
     }
 
     /// Counts an entry, with the history as it stood before it. A call refused or done against the
@@ -228,24 +219,7 @@ impl Census {
 
 impl fmt::Display for Census {
     fn fmt(&self, f: &mut fmt::Formatter) -> fmt::Result {
-        for (class, count) in self.counts() {
-            writeln!(f, "{count:>9}  {class}")?;
-        }
-        Ok(())
-    }
-}
-
-fn tick(counts: &mut Counts, class: &str) {
-    if let Some(count) = counts.get_mut(class) {
-        *count += 1;
-    } else {
-        counts.insert(class.to_string(), 1);
-    }
-}
-
-fn add(counts: &mut Counts, others: &Counts) {
-    for (class, count) in others {
-        *counts.entry(class.clone()).or_insert(0) += count;
+        self.all().fmt(f)
     }
 }
 
@@ -265,7 +239,7 @@ fn served_after_class(before: Abi) -> String {
 }
 
 /// A word of an answer that is 0 or 1.
-fn yes_or_no(word: u64) -> &'static str {
+pub(crate) fn yes_or_no(word: u64) -> &'static str {
     if word == 1 {
         "yes"
     } else {
@@ -273,12 +247,15 @@ fn yes_or_no(word: u64) -> &'static str {
     }
 }
 
+/// How a length can differ from the due one.
+pub(crate) const LENGTHS: [&str; 3] = ["empty", "short", "long"];
+
 /// How a length differs from the due one.
-fn wrong_length(bytes: usize, due: usize) -> Option<&'static str> {
+pub(crate) fn wrong_length(bytes: usize, due: usize) -> Option<&'static str> {
     match bytes {
-        0 => Some("empty"),
-        _ if bytes < due => Some("short"),
-        _ if bytes > due => Some("long"),
+        0 => Some(LENGTHS[0]),
+        _ if bytes < due => Some(LENGTHS[1]),
+        _ if bytes > due => Some(LENGTHS[2]),
         _ => None,
     }
 }

@@ -3,7 +3,8 @@
 //! A [`Step`] is what guests (and the host, in the grants) write, and then one call. The
 //! [`Generator`] makes steps; it looks at the answers of the first program, as a real host does.
 //! The other programs get the very same steps, and [`run`] stops at the first difference. Beside the
-//! calls, the host hands each answer over to a record of counters, and zeroes records.
+//! calls, the host hands each answer over to a record of counters, and zeroes records. The guest's half
+//! has lists of its own ([`run_guests`]), and lists on one page with a backend ([`run_halves`]).
 //!
 //! To compare another program, implement [`Core`] for it and run it beside the second program:
 //!
@@ -17,20 +18,29 @@
 
 mod census;
 mod generator;
+mod guest;
+mod halves;
 mod meters;
 mod programs;
 mod random;
 mod requests;
 mod run;
 mod sheets;
+mod tally;
 mod world;
 
 pub use census::Census;
 pub use generator::Generator;
+pub use guest::{
+    collect_words, run_guests, GuestCall, GuestCensus, GuestCore, GuestGenerator, GuestOutcome,
+    GuestStep, PageWrite,
+};
+pub use halves::{run_halves, Halves, HalvesReport};
 pub use meters::{meter_of, numbers};
 pub use programs::{done_words, for_second, turn_words, Core};
 pub use random::Random;
 pub use run::{run, Failure, Report};
+pub use tally::Tally;
 pub use world::{Outcome, World, UNTOUCHED};
 
 use kernelharp::Completion;

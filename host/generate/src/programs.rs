@@ -108,7 +108,7 @@ fn lend(meter: &mut Meter, raise: impl FnOnce(&mut second::Meter)) {
 }
 
 /// Hands an answer on, or gives the refusal's number.
-fn code<T>(outcome: Result<T, Refusal>, store: impl FnOnce(T)) -> u32 {
+pub(crate) fn code<T>(outcome: Result<T, Refusal>, store: impl FnOnce(T)) -> u32 {
     match outcome {
         Ok(answer) => {
             store(answer);

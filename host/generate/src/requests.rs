@@ -4,26 +4,26 @@ use crate::Random;
 use kernelharp::layout::{Abi, EXTENTS};
 use second::{Disk, Operation};
 
-const READ: u8 = Operation::Read as u8;
-const WRITE: u8 = Operation::Write as u8;
-const BARRIER: u8 = Operation::Barrier as u8;
-const FLUSH: u8 = Operation::Flush as u8;
-const DISCARD: u8 = Operation::Discard as u8;
+pub const READ: u8 = Operation::Read as u8;
+pub const WRITE: u8 = Operation::Write as u8;
+pub const BARRIER: u8 = Operation::Barrier as u8;
+pub const FLUSH: u8 = Operation::Flush as u8;
+pub const DISCARD: u8 = Operation::Discard as u8;
 
 /// A request before it is put into a slot.
-struct Draft {
-    operation: u8,
-    count_or_flag: u8,
-    start: u64,
+pub struct Draft {
+    pub operation: u8,
+    pub count_or_flag: u8,
+    pub start: u64,
     /// A discard's sector count.
-    discard_count: u64,
-    segments: Vec<Segment>,
+    pub discard_count: u64,
+    pub segments: Vec<Segment>,
 }
 
-struct Segment {
-    frame: u32,
-    first: u8,
-    last: u8,
+pub struct Segment {
+    pub frame: u32,
+    pub first: u8,
+    pub last: u8,
 }
 
 impl Draft {
@@ -152,7 +152,7 @@ fn faulty_operation(random: &mut Random, number: u64, disk: &Disk, grants: &[u8]
 }
 
 /// A draft that passes checks 25 to 29, if the disk is large enough.
-fn draft(random: &mut Random, operation: u8, disk: &Disk, grants: &[u8]) -> Draft {
+pub fn draft(random: &mut Random, operation: u8, disk: &Disk, grants: &[u8]) -> Draft {
     let mut draft = Draft {
         operation,
         count_or_flag: 0,
@@ -264,7 +264,7 @@ fn refused_frame(random: &mut Random, operation: u8, grants: &[u8]) -> u32 {
 }
 
 /// Makes a draft fail at a check from 25 on, as far as the operation has that check.
-fn spoil(random: &mut Random, number: u64, draft: &mut Draft, disk: &Disk, grants: &[u8]) {
+pub fn spoil(random: &mut Random, number: u64, draft: &mut Draft, disk: &Disk, grants: &[u8]) {
     match number {
         25 => spoil_amount(random, draft),
         26 if draft.has_segments() => {

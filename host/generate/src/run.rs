@@ -13,8 +13,8 @@ pub struct Failure {
     pub seed: u64,
     /// The number of the step, from 0.
     pub number: u64,
-    /// The step.
-    pub step: Step,
+    /// The call.
+    pub call: String,
     /// What was wrong.
     pub fault: String,
 }
@@ -23,7 +23,7 @@ impl fmt::Display for Failure {
     fn fmt(&self, f: &mut fmt::Formatter) -> fmt::Result {
         let Failure { seed, number, .. } = self;
         write!(f, "seed {seed}, step {number}: {}", self.fault)?;
-        write!(f, "\n  {:?}", self.step.call)
+        write!(f, "\n  {}", self.call)
     }
 }
 
@@ -37,15 +37,15 @@ pub struct Report {
 }
 
 /// One program with its buffers, its host's records, and its memory as the last call left it.
-struct Program<'a> {
+pub(crate) struct Program<'a> {
     core: &'a mut dyn Core,
-    world: World,
+    pub(crate) world: World,
     records: Records,
     memory: Vec<u64>,
 }
 
 impl<'a> Program<'a> {
-    fn new(core: &'a mut dyn Core) -> Program<'a> {
+    pub(crate) fn new(core: &'a mut dyn Core) -> Program<'a> {
         let memory = core.memory().to_vec();
         Program {
             core,
@@ -55,7 +55,7 @@ impl<'a> Program<'a> {
         }
     }
 
-    fn run(&mut self, step: &Step) -> Outcome {
+    pub(crate) fn run(&mut self, step: &Step) -> Outcome {
         self.world.run(self.core, step)
     }
 
@@ -161,28 +161,51 @@ pub fn run(cores: &mut [&mut dyn Core], seed: u64, calls: u64) -> Result<Report,
         history: History::new(),
         census: Census::new(),
     };
-    for number in 0..calls {
+    run_list(seed, calls, || {
         let step = generator.next_step(&run.programs[0].world);
-        match run.step(&step) {
-            Ok(outcome) => generator.observe(&step.call, &outcome),
-            Err(fault) => {
-                return Err(Failure {
-                    seed,
-                    number,
-                    step,
-                    fault,
-                })
-            }
-        }
-    }
+        let outcome = run
+            .step(&step)
+            .map_err(|fault| at_fault(&step.call, fault))?;
+        generator.observe(&step.call, &outcome);
+        Ok(())
+    })?;
     Ok(Report {
         census: run.census,
         longest_wait: run.history.longest_wait(),
     })
 }
 
+/// A call, and what was wrong with it.
+pub(crate) type Fault = (String, String);
+
+/// The fault of a call.
+pub(crate) fn at_fault(call: &impl fmt::Debug, fault: String) -> Fault {
+    (format!("{call:?}"), fault)
+}
+
+/// Makes one step after another, up to the first that is at fault.
+pub(crate) fn run_list(
+    seed: u64,
+    calls: u64,
+    mut step: impl FnMut() -> Result<(), Fault>,
+) -> Result<(), Failure> {
+    for number in 0..calls {
+        step().map_err(|(call, fault)| Failure {
+            seed,
+            number,
+            call,
+            fault,
+        })?;
+    }
+    Ok(())
+}
+
 /// What each program's call left as it was, and the first one's call against every other one's.
-fn compare(call: &Call, programs: &mut [Program], outcomes: &[Outcome]) -> Result<(), String> {
+pub(crate) fn compare(
+    call: &Call,
+    programs: &mut [Program],
+    outcomes: &[Outcome],
+) -> Result<(), String> {
     for (index, (program, outcome)) in programs.iter_mut().zip(outcomes).enumerate() {
         program
             .check_memory(outcome.code)
@@ -223,7 +246,7 @@ fn compare_one(
     Ok(())
 }
 
-fn same_words<T: PartialEq + fmt::LowerHex>(
+pub(crate) fn same_words<T: PartialEq + fmt::LowerHex>(
     what: &str,
     one: &[T],
     other: &[T],

@@ -166,7 +166,7 @@ impl World {
     }
 }
 
-fn copy_of_length(copy: &mut Vec<u8>, original: &[u8], bytes: usize) {
+pub(crate) fn copy_of_length(copy: &mut Vec<u8>, original: &[u8], bytes: usize) {
     copy.clear();
     copy.extend_from_slice(&original[..bytes.min(original.len())]);
     copy.resize(bytes, 0);

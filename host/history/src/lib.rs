@@ -4,11 +4,13 @@
 //! [`History`] keeps books from events only, calls with what they were lent, left and answered
 //! ([`Event`]); no field of a backend is looked at. It shares no code with the second program, nor with
 //! the wrapper: what is asked of a call is written here once more, from the rules. C and R are
-//! req_cons and rsp_prod_pvt (rule 12.27).
+//! req_cons and rsp_prod_pvt (rule 12.27). [`HalvesHistory`] does the same for a guest and a backend
+//! that share a page.
 
 mod books;
 mod counts;
 mod event;
+mod halves;
 mod page;
 mod refusal;
 mod sheet;
@@ -16,6 +18,7 @@ mod wait;
 
 pub use counts::Record;
 pub use event::Event;
+pub use halves::{HalvesEvent, HalvesHistory};
 
 use books::Books;
 use counts::Counts;

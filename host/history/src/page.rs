@@ -17,6 +17,10 @@ pub mod turn {
     pub const PORT: usize = 1;
     pub const TAG: usize = 2;
     pub const SERIAL: usize = 3;
+    /// Then start, count, secure mark and number of extents.
+    pub const OPERATION: usize = 4;
+    pub const STATUS: usize = 10;
+    pub const EXTENTS: usize = 16;
 }
 
 /// What a turn did, as its answer has it.
@@ -30,8 +34,9 @@ pub mod kind {
 /// The (id, operation) pair of a request or of an answer.
 pub type Pair = (u64, u8);
 
-/// The word of a completion's answer that names the port.
+/// The words of a completion's answer that name the port, and the status without its sign.
 pub const DONE_PORT: usize = 0;
+pub const DONE_STATUS: usize = 1;
 
 /// A port's page of the rings.
 pub fn page(rings: &[u8], port: usize) -> &[u8] {
@@ -48,13 +53,21 @@ pub enum Layout {
 }
 
 impl Layout {
-    /// Where the slot of an index begins.
-    fn slot_at(self, index: u32) -> usize {
-        let slot_bytes = match self {
+    fn slot_bytes(self) -> usize {
+        match self {
             Layout::Bits64 => 112,
             Layout::Bits32 => 108,
-        };
-        64 + slot_bytes * (index as usize % SLOTS)
+        }
+    }
+
+    /// Where the slot of an index begins.
+    fn slot_at(self, index: u32) -> usize {
+        64 + self.slot_bytes() * (index as usize % SLOTS)
+    }
+
+    /// The bytes of an index's slot.
+    pub fn slot(self, page: &[u8], index: u32) -> &[u8] {
+        &page[self.slot_at(index)..][..self.slot_bytes()]
     }
 
     /// The pair of a request, whose id is at a place of the layout's own.
@@ -86,7 +99,7 @@ pub fn u32_at(bytes: &[u8], at: usize) -> u32 {
 }
 
 /// A little-endian number.
-fn u64_at(bytes: &[u8], at: usize) -> u64 {
+pub fn u64_at(bytes: &[u8], at: usize) -> u64 {
     number(&bytes[at..at + 8])
 }
 

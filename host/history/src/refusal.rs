@@ -1,4 +1,4 @@
-//! The numbers that a call is refused with (section 7).
+//! The numbers that a call is refused with (sections 7 and 16).
 
 /// Done, and not refused.
 pub const NONE: u32 = 0;
@@ -13,3 +13,6 @@ pub const SHEET_NODES: u32 = 12;
 pub const SHEET_TEXT: u32 = 13;
 pub const SHEET_NUMBER: u32 = 14;
 pub const SHEET_MISSING: u32 = 15;
+pub const RING_FULL: u32 = 31;
+pub const ID_OUTSTANDING: u32 = 32;
+pub const BAD_REQUEST: u32 = 33;

@@ -138,7 +138,8 @@ impl Backend {
     }
 }
 
-fn outcome(code: u32) -> Result<(), Refusal> {
+/// What a call returned, as a refusal or none.
+pub(crate) fn outcome(code: u32) -> Result<(), Refusal> {
     match code {
         0 => Ok(()),
         number => Err(Refusal::from_number(number).expect("a refusal's number")),
@@ -146,7 +147,7 @@ fn outcome(code: u32) -> Result<(), Refusal> {
 }
 
 /// Zeros on the heap, never on the stack.
-fn zeros<const BYTES: usize>() -> Box<[u8; BYTES]> {
+pub(crate) fn zeros<const BYTES: usize>() -> Box<[u8; BYTES]> {
     let zeros = vec![0; BYTES].into_boxed_slice();
     zeros.try_into().expect("a slice of that length")
 }

@@ -3,16 +3,18 @@
 
 use crate::layout::RING_BYTES;
 use crate::names::Name;
-use crate::words::{DoneWords, TurnWords};
+use crate::words::{CollectWords, DoneWords, PutWords, RequestWords, TurnWords};
 use std::fmt;
 use std::ptr::NonNull;
 use std::sync::atomic::AtomicU32;
 
 /// The version that this package was built for, as `kh_version` gives it: major x 10,000 + minor x
 /// 100 + patch.
-pub const VERSION: u32 = 401;
+pub const VERSION: u32 = 500;
 /// How many words of backend memory this package was built for (`KH_MEMORY_WORDS`).
 pub const MEMORY_WORDS: usize = 1121;
+/// How many words of guest memory this package was built for (`KH_GUEST_WORDS`).
+pub const GUEST_WORDS: usize = 67;
 
 extern "C" {
     fn kh_version() -> u32;
@@ -37,6 +39,16 @@ extern "C" {
         result: i32,
         answer: *mut u64,
     ) -> u32;
+    fn kh_guest_words() -> u32;
+    fn kh_guest_put(
+        guest: *mut u64,
+        page: *mut u8,
+        page_bytes: usize,
+        request: *const u64,
+        answer: *mut u64,
+    ) -> u32;
+    fn kh_guest_collect(guest: *mut u64, page: *mut u8, page_bytes: usize, answer: *mut u64)
+        -> u32;
     fn kh_meter_turn(meter: *mut Meter, returned: u32, answer: *const u64);
     fn kh_meter_completion(meter: *mut Meter, returned: u32, answer: *const u64);
 }
@@ -48,6 +60,8 @@ pub struct ArchiveMismatch {
     pub version: u32,
     /// What `kh_memory_words` answered; [`MEMORY_WORDS`] was due.
     pub memory_words: u32,
+    /// What `kh_guest_words` answered; [`GUEST_WORDS`] was due.
+    pub guest_words: u32,
 }
 
 impl fmt::Display for ArchiveMismatch {
@@ -55,15 +69,43 @@ impl fmt::Display for ArchiveMismatch {
         let ArchiveMismatch {
             version,
             memory_words,
+            guest_words,
         } = self;
         write!(
             f,
-            "the archive is of version {version} with {memory_words} memory words, not of version {VERSION} with {MEMORY_WORDS}"
+            "the archive is of version {version} with {memory_words} memory words and {guest_words} guest words, not of version {VERSION} with {MEMORY_WORDS} and {GUEST_WORDS}"
         )
     }
 }
 
 impl std::error::Error for ArchiveMismatch {}
+
+/// Asks the archive that was linked what it is. Backends and guests are of one release, so each is
+/// made only where all three numbers are the due ones.
+fn check_linked_archive() -> Result<(), ArchiveMismatch> {
+    // SAFETY: the functions have no arguments and touch no memory of ours.
+    let linked = unsafe {
+        ArchiveMismatch {
+            version: kh_version(),
+            memory_words: kh_memory_words(),
+            guest_words: kh_guest_words(),
+        }
+    };
+    check_archive(linked)
+}
+
+fn check_archive(linked: ArchiveMismatch) -> Result<(), ArchiveMismatch> {
+    let due = ArchiveMismatch {
+        version: VERSION,
+        memory_words: MEMORY_WORDS as u32,
+        guest_words: GUEST_WORDS as u32,
+    };
+    if linked == due {
+        Ok(())
+    } else {
+        Err(linked)
+    }
+}
 
 /// What a completion names, in numbers, and the host's result (rule 6.8).
 #[derive(Clone, Copy, Debug, PartialEq, Eq)]
@@ -101,9 +143,7 @@ pub struct Memory {
 impl Memory {
     /// The empty backend: all words zero.
     pub fn new() -> Result<Memory, ArchiveMismatch> {
-        // SAFETY: the functions have no arguments and touch no memory of ours.
-        let (version, memory_words) = unsafe { (kh_version(), kh_memory_words()) };
-        check_archive(version, memory_words)?;
+        check_linked_archive()?;
         let words = Box::new([0; MEMORY_WORDS]);
         Ok(Memory { words })
     }
@@ -175,6 +215,51 @@ impl Memory {
     }
 }
 
+/// Guest memory, with the archive's calls of the guest's half over it: they lend a page of any length,
+/// and give 0 when done, else the refusal's number; a refused call leaves all that was lent, the answer
+/// included. There is one only where the archive is the one that this package was built for.
+#[derive(Clone, Debug, PartialEq, Eq)]
+pub struct GuestMemory {
+    words: Box<[u64; GUEST_WORDS]>,
+}
+
+impl GuestMemory {
+    /// A fresh guest: all words zero.
+    pub fn new() -> Result<GuestMemory, ArchiveMismatch> {
+        check_linked_archive()?;
+        let words = Box::new([0; GUEST_WORDS]);
+        Ok(GuestMemory { words })
+    }
+
+    /// The words, to be looked at or stored.
+    pub fn words(&self) -> &[u64; GUEST_WORDS] {
+        &self.words
+    }
+
+    /// The words, to be put back. Whatever they hold, the calls stay within what they are lent.
+    pub fn words_mut(&mut self) -> &mut [u64; GUEST_WORDS] {
+        &mut self.words
+    }
+
+    /// `kh_guest_put`
+    pub fn put(&mut self, page: &mut [u8], request: &RequestWords, answer: &mut PutWords) -> u32 {
+        let (guest, answer) = (self.words.as_mut_ptr(), answer.as_mut_ptr());
+        let (bytes, page) = (page.len(), page.as_mut_ptr());
+        // SAFETY: `guest` is GUEST_WORDS words long, which the constructor has held against the
+        // archive; the page's pointer and length are one slice's; request and answer have their
+        // fixed lengths; and no two overlap, for all that is written is lent by &mut.
+        unsafe { kh_guest_put(guest, page, bytes, request.as_ptr(), answer) }
+    }
+
+    /// `kh_guest_collect`
+    pub fn collect(&mut self, page: &mut [u8], answer: &mut CollectWords) -> u32 {
+        let (guest, answer) = (self.words.as_mut_ptr(), answer.as_mut_ptr());
+        let (bytes, page) = (page.len(), page.as_mut_ptr());
+        // SAFETY: as in `put`.
+        unsafe { kh_guest_collect(guest, page, bytes, answer) }
+    }
+}
+
 /// A port's counters (rule 15.1): `kh_meter`. A number that got to 2^64 - 1 stays there.
 ///
 /// [`crate::Backend`] has one for each port and hands every answer over itself. Over a [`Memory`] that
@@ -233,22 +318,12 @@ impl fmt::Display for Meter {
     }
 }
 
-fn check_archive(version: u32, memory_words: u32) -> Result<(), ArchiveMismatch> {
-    if version == VERSION && memory_words as usize == MEMORY_WORDS {
-        return Ok(());
-    }
-    Err(ArchiveMismatch {
-        version,
-        memory_words,
-    })
-}
-
 /// The bytes of a word of a page.
 pub(crate) const WORD_BYTES: usize = 4;
 /// The words of a page.
 pub const RING_WORDS: usize = RING_BYTES / WORD_BYTES;
 
-/// A guest's ring page where this program has it mapped.
+/// A guest's ring page where this program has it mapped: a host the page of a guest, or a guest its own.
 ///
 /// There is never a slice or a reference over the page: it is read and written one aligned word at
 /// a time, volatile, so that no access is doubled, left out or torn.
@@ -268,14 +343,14 @@ impl Mapping {
     ///
     /// As long as the value lives, `page` points to 4,096 bytes, aligned to 4, that may be read and
     /// written; this program has no reference to any of them but to atomics; and where a thread of
-    /// this program plays the guest, it too goes by volatile or atomic accesses.
+    /// this program plays the other side, it too goes by volatile or atomic accesses.
     pub unsafe fn new(page: NonNull<u8>) -> Mapping {
         let page = page.cast::<u32>();
         assert!(page.is_aligned(), "a ring page is aligned");
         Mapping { page }
     }
 
-    /// A page of this program's own, whose guest is a thread of it.
+    /// A page of this program's own, whose other side is a thread of it.
     pub fn of_atomics(page: &'static [AtomicU32; RING_WORDS]) -> Mapping {
         // SAFETY: the page is never freed, has as many words and their alignment, and whoever else
         // reaches it does so by atomics, which may be written through shared references.
@@ -341,13 +416,28 @@ mod tests {
 
     #[test]
     fn another_archive_is_told() {
-        let words = MEMORY_WORDS as u32;
-        assert_eq!(check_archive(VERSION, words), Ok(()));
-        for (version, memory_words) in [(VERSION + 1, words), (100, words), (VERSION, words - 1)] {
-            let fault = check_archive(version, memory_words).unwrap_err();
-            assert_eq!((fault.version, fault.memory_words), (version, memory_words));
-            let told = format!("version {version} with {memory_words} memory words");
-            assert!(fault.to_string().contains(&told));
+        let due = ArchiveMismatch {
+            version: VERSION,
+            memory_words: MEMORY_WORDS as u32,
+            guest_words: GUEST_WORDS as u32,
+        };
+        assert_eq!(check_archive(due), Ok(()));
+        let others: [fn(&mut ArchiveMismatch); 4] = [
+            |it| it.version += 1,
+            |it| it.version = 100,
+            |it| it.memory_words -= 1,
+            |it| it.guest_words += 1,
+        ];
+        for change in others {
+            let mut other = due;
+            change(&mut other);
+            let fault = check_archive(other).unwrap_err();
+            assert_eq!(fault, other);
+            let told = format!(
+                "version {} with {} memory words and {} guest words, not",
+                other.version, other.memory_words, other.guest_words
+            );
+            assert!(fault.to_string().contains(&told), "{fault}");
         }
     }
 }

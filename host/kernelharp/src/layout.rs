@@ -8,6 +8,8 @@ pub const PORTS: usize = 8;
 pub const RING_BYTES: usize = 4096;
 /// The ring pages of all ports.
 pub const RINGS_BYTES: usize = PORTS * RING_BYTES;
+/// The ring page of a guest that uses the guest's half.
+pub const GUEST_PAGE_BYTES: usize = 4096;
 /// A port's grants.
 pub const PORT_GRANTS: usize = 1024;
 /// The grants of all ports.
@@ -34,8 +36,10 @@ pub const HEADER_BYTES: usize = 64;
 pub const RESPONSE_BYTES: usize = 16;
 /// A response to a 32-bit guest.
 pub const RESPONSE32_BYTES: usize = 12;
-/// The most segments a request holds, and so the most extents of a plan.
-pub const EXTENTS: usize = 11;
+/// The most segments a request holds.
+pub const SEGMENTS: usize = 11;
+/// The most extents of a plan: one to a segment.
+pub const EXTENTS: usize = SEGMENTS;
 
 /// How a guest lays out its requests and responses: the node protocol (rules 1.16 and 3.5).
 #[derive(Clone, Copy, Debug, Default, PartialEq, Eq, Hash)]

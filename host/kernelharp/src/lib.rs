@@ -1,13 +1,15 @@
-//! Kernelharp for hosts in Rust: the request core of a Xen block backend, whose calls are proved.
+//! Kernelharp for hosts in Rust: the request core of a Xen block backend, whose calls are proved; and
+//! for guests the other half of a ring, likewise.
 //!
 //! - [`Backend`]: the four calls over private buffers that it owns, with typed answers ([`Turn`],
 //!   [`Plan`], [`Done`]) and refusals as errors ([`Refusal`]).
 //!   Each port has its [`Meter`], which the calls raise ([`Backend::meter`], [`Backend::take_meter`]).
-//! - [`live`]: the same over ring pages that guests may write at the same time.
+//! - [`Guest`]: the guest's half, for guest images: it puts a [`Request`] and collects a [`Response`].
+//! - [`live`]: backend and guest over ring pages that the other side may write at the same time.
 //! - [`Sheet`]: node sheets from a disk's properties and its guest's layout ([`Abi`]).
 //! - [`Memory`]: the C functions over slices of any length, for tests and for hosts with buffers of
 //!   their own; its answers are words, which [`words`] names, and such a host hands them to its
-//!   [`Meter`]s itself.
+//!   [`Meter`]s itself. [`GuestMemory`]: the same of the guest's half.
 //! - [`layout`]: sizes and places of buffers, pages and slots, the latter by [`Abi`].
 //!
 //! A guest has 64-bit or 32-bit records; each port is opened for one of the two, and one backend serves
@@ -18,13 +20,14 @@
 //! with an answer that it does not know. Rules are those of docs/RULES.md in the library's repository.
 //!
 //! The build links `libkernelharp.a`: the file that the variable `KERNELHARP_ARCHIVE` names, else the
-//! one that pkg-config knows as `kernelharp`. [`Backend::new`] refuses an archive of another version
-//! than this package.
+//! one that pkg-config knows as `kernelharp`. [`Backend::new`] and [`Guest::new`] refuse an archive of
+//! another version than this package.
 
 mod answers;
 mod backend;
 #[allow(unsafe_code)]
 mod ffi;
+mod guest;
 pub mod layout;
 pub mod live;
 mod names;
@@ -34,7 +37,10 @@ pub mod words;
 
 pub use answers::{Done, Extent, Plan, Turn};
 pub use backend::Backend;
-pub use ffi::{ArchiveMismatch, Completion, Memory, Meter, MEMORY_WORDS, VERSION};
+pub use ffi::{
+    ArchiveMismatch, Completion, GuestMemory, Memory, Meter, GUEST_WORDS, MEMORY_WORDS, VERSION,
+};
+pub use guest::{Guest, Request, Response, Segment};
 pub use layout::Abi;
 pub use names::{Name, Port, Serial, Tag};
 pub use sheet::Sheet;

@@ -1,11 +1,14 @@
-//! Ring pages that guests may write at the same time.
+//! Ring pages that the other side may write at the same time.
 //!
 //! The calls see buffers that nobody else writes. So a live page is never lent: before a call what
-//! the call reads is copied in, to the backend's private page, and after it what the call wrote is
-//! copied out, never more, for that would undo what the guest wrote meanwhile.
-//! [`Mapping`] is such a page where it is mapped, [`SharedPage`] the page with what the host counts of
-//! its port. [`LiveBackend`] is a [`crate::Backend`] over up to eight of them,
-//! with the fences and second looks that ring.h's macros have and a call over private pages cannot:
+//! the call reads is copied in, to a private page, and after it what the call wrote is copied out,
+//! never more, for that would undo what the other side wrote meanwhile. [`Mapping`] is such a page
+//! where it is mapped. The proof speaks of the calls over the private page; the copies, fences and
+//! second looks are ordinary code, which is tested.
+//!
+//! For hosts: [`SharedPage`] is the page with what the host counts of its port, [`LiveBackend`] a
+//! [`crate::Backend`] over up to eight of them, with the fences and second looks that ring.h's macros
+//! have and a call over private pages cannot:
 //!
 //! | when | what is done |
 //! |---|---|
@@ -16,12 +19,27 @@
 //!
 //! Where a request lies and how long a response is goes by the port's layout ([`crate::Abi`]), which
 //! [`LiveBackend::open`] takes from the sheet.
+//!
+//! For guests, of the 64-bit layout: [`OwnPage`] is the guest's page with what it counts itself,
+//! [`LiveGuest`] a [`crate::Guest`] over it:
+//!
+//! | when | what is done |
+//! |---|---|
+//! | before a put | req_event in |
+//! | after a put | the slot's 112 bytes out, a write fence, req_prod out, a full fence, req_event once more |
+//! | before a collect | rsp_prod, a read fence, the next response's 16 bytes in |
+//! | after a collect that found nothing | rsp_event out, a full fence, one more collect |
 
 mod backend;
+mod copy;
+mod guest;
+mod own;
 mod page;
 #[cfg(test)]
 mod tests;
 
 pub use crate::ffi::{Mapping, RING_WORDS};
 pub use backend::LiveBackend;
+pub use guest::LiveGuest;
+pub use own::OwnPage;
 pub use page::SharedPage;

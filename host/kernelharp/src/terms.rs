@@ -43,7 +43,8 @@ macro_rules! numbered {
 }
 
 numbered! {
-    /// What a refused call answers (section 7 of the rules).
+    /// What a refused call answers (section 7 of the rules; 31 to 35 are of the guest's half, section
+    /// 16, and 1 is of both).
     Refusal, "refusal":
     WrongLength = 1, "a lent buffer has the wrong length";
     NoPort = 2, "port above 7";
@@ -56,6 +57,11 @@ numbered! {
     SheetText = 13, "a text that node 1 to 5 or 8 does not know, or no number in 6, 7 or 9";
     SheetNumber = 14, "a number that node 6, 7 or 9 does not allow";
     SheetMissing = 15, "node 1, 6 or 7 missing";
+    RingFull = 31, "32 requests outstanding";
+    IdOutstanding = 32, "a request with that id is outstanding";
+    BadRequest = 33, "the request fails check 21, 25 or 26, or a number does not fit its field";
+    BadRspProd = 34, "rsp_prod is further ahead than there are requests outstanding";
+    NotOutstanding = 35, "no outstanding request has the response's id and operation";
 }
 
 impl std::error::Error for Refusal {}
@@ -100,6 +106,8 @@ pub enum Status {
 }
 
 impl Status {
+    const ALL: [Status; 3] = [Status::Okay, Status::Error, Status::NotSupported];
+
     /// The status as the answers' words carry it: 0, 1 or 2.
     pub fn magnitude(self) -> u64 {
         u64::from((self as i16).unsigned_abs())
@@ -107,8 +115,14 @@ impl Status {
 
     /// The status of a magnitude.
     pub fn from_magnitude(magnitude: u64) -> Option<Status> {
-        let all = [Status::Okay, Status::Error, Status::NotSupported];
-        all.into_iter().find(|it| it.magnitude() == magnitude)
+        Status::ALL
+            .into_iter()
+            .find(|it| it.magnitude() == magnitude)
+    }
+
+    /// The status of 16 bits as they stand in a response.
+    pub fn from_bits(bits: u16) -> Option<Status> {
+        Status::ALL.into_iter().find(|it| *it as u16 == bits)
     }
 }
 
@@ -175,7 +189,9 @@ mod tests {
             .filter_map(Refusal::from_number)
             .map(|refusal| refusal as u32)
             .collect();
-        assert_eq!(refusals, [1, 2, 3, 4, 5, 6, 11, 12, 13, 14, 15]);
+        let of_a_backend = [1, 2, 3, 4, 5, 6, 11, 12, 13, 14, 15];
+        let of_a_guest = [31, 32, 33, 34, 35];
+        assert_eq!(refusals, [&of_a_backend[..], &of_a_guest].concat());
         let reasons: Vec<u32> = (0..100)
             .filter_map(Reason::from_number)
             .map(|reason| reason as u32)
@@ -186,6 +202,11 @@ mod tests {
             .map(|status| status as i16)
             .collect();
         assert_eq!(statuses, [0, -1, -2]);
+        let bits: Vec<u16> = (0..=u16::MAX)
+            .filter(|&bits| Status::from_bits(bits).is_some())
+            .collect();
+        assert_eq!(bits, [0, 0xFFFE, 0xFFFF]);
+        assert_eq!(Status::from_bits(0xFFFE), Some(Status::NotSupported));
     }
 
     #[test]

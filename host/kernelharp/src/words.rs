@@ -4,11 +4,23 @@
 pub const TURN_WORDS: usize = 64;
 /// How many words a completion answers with.
 pub const DONE_WORDS: usize = 4;
+/// How many words a request has that a guest puts.
+pub const REQUEST_WORDS: usize = 41;
+/// How many words putting answers with.
+pub const PUT_WORDS: usize = 1;
+/// How many words collecting answers with.
+pub const COLLECT_WORDS: usize = 4;
 
 /// A turn's answer.
 pub type TurnWords = [u64; TURN_WORDS];
 /// A completion's answer.
 pub type DoneWords = [u64; DONE_WORDS];
+/// A request that a guest puts.
+pub type RequestWords = [u64; REQUEST_WORDS];
+/// The answer of putting.
+pub type PutWords = [u64; PUT_WORDS];
+/// The answer of collecting.
+pub type CollectWords = [u64; COLLECT_WORDS];
 
 /// Places in a turn's answer. What the kind does not use is 0.
 pub mod turn {
@@ -74,4 +86,52 @@ pub mod done {
     pub const STATUS: usize = 1;
     /// Whether the guest is to be notified, 0 or 1.
     pub const NOTIFY: usize = 2;
+}
+
+/// Places in a request that a guest puts. Only what the operation uses is looked at.
+pub mod request {
+    /// The operation's number.
+    pub const OPERATION: usize = 0;
+    /// The id.
+    pub const ID: usize = 1;
+    /// The first sector on the disk.
+    pub const START: usize = 2;
+    /// How many segments.
+    pub const SEGMENT_COUNT: usize = 3;
+    /// Of a discard: its flag, of which only bit 0 is used.
+    pub const FLAG: usize = 4;
+    /// Of a discard: how many sectors.
+    pub const SECTORS: usize = 5;
+    /// The first segment; the others follow it.
+    pub const SEGMENTS: usize = 8;
+}
+
+/// Places in a segment of such a request.
+pub mod segment {
+    /// The guest frame.
+    pub const FRAME: usize = 0;
+    /// The first sector within the frame.
+    pub const FIRST: usize = 1;
+    /// The last sector within the frame.
+    pub const LAST: usize = 2;
+    /// How many words a segment has.
+    pub const WORDS: usize = 3;
+}
+
+/// Places in the answer of putting.
+pub mod put {
+    /// Whether the backend is to be notified, 0 or 1.
+    pub const NOTIFY: usize = 0;
+}
+
+/// Places in the answer of collecting.
+pub mod collect {
+    /// 1 where there was a response; else 0, and so are the others.
+    pub const FOUND: usize = 0;
+    /// Its id.
+    pub const ID: usize = 1;
+    /// Its operation.
+    pub const OPERATION: usize = 2;
+    /// The 16 bits of its status.
+    pub const STATUS: usize = 3;
 }

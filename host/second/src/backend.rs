@@ -2,7 +2,8 @@
 
 use crate::answers::{Done, Turned};
 use crate::layout::{
-    page, page_mut, write_u32, GRANTS_BYTES, PORTS, PORT_GRANTS, REQ_EVENT, RINGS_BYTES,
+    check_length, page, page_mut, write_u32, GRANTS_BYTES, PORTS, PORT_GRANTS, REQ_EVENT,
+    RINGS_BYTES,
 };
 use crate::ring::Backlog;
 use crate::session::Session;
@@ -143,15 +144,6 @@ impl Backend {
             *place = Port::Broken(session);
         }
         Turned::Overrun { port: port as u32 }
-    }
-}
-
-/// Refusal 1.
-fn check_length(buffer: &[u8], due: usize) -> Result<(), Refusal> {
-    if buffer.len() == due {
-        Ok(())
-    } else {
-        Err(Refusal::WrongLength)
     }
 }
 

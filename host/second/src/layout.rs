@@ -1,5 +1,7 @@
 //! Sizes and places (sections 1 and 2), a record's by its layout, and numbers in bytes (rule 2.1).
 
+use crate::terms::Refusal;
+
 /// Rule 1.1.
 pub const PORTS: usize = 8;
 /// Rule 1.3: a port's share of the rings, and all of them.
@@ -66,6 +68,15 @@ pub fn page(rings: &[u8], port: usize) -> &[u8] {
 /// Rule 1.3.
 pub fn page_mut(rings: &mut [u8], port: usize) -> &mut [u8] {
     &mut rings[RING_BYTES * port..RING_BYTES * (port + 1)]
+}
+
+/// Refusal 1.
+pub fn check_length(buffer: &[u8], due: usize) -> Result<(), Refusal> {
+    if buffer.len() == due {
+        Ok(())
+    } else {
+        Err(Refusal::WrongLength)
+    }
 }
 
 pub fn read_u32(bytes: &[u8], at: usize) -> u32 {

@@ -2,12 +2,13 @@
 //!
 //! It is there to be compared with the archive. So it shares no code with the wrapper, and says what
 //! the rules say in the plainest way: [`Backend`] has eight ports and the four calls, whose answers
-//! are [`Turned`] and [`Done`]; a [`Meter`] counts them. In the comments C and R are req_cons and
-//! rsp_prod_pvt (rule 4.2), and sections are those of docs/RULES.md.
+//! are [`Turned`] and [`Done`]; a [`Meter`] counts them; a [`Guest`] is the other side of a ring. In the
+//! comments C and R are req_cons and rsp_prod_pvt (rule 4.2), and sections are those of docs/RULES.md.
 
 mod answers;
 mod backend;
 mod checks;
+mod guest;
 mod layout;
 mod meter;
 mod request;
@@ -18,6 +19,7 @@ mod terms;
 
 pub use answers::{Done, Extent, Plan, Turned};
 pub use backend::{Backend, Completion};
+pub use guest::{Collected, Guest, RequestWords};
 pub use layout::Layout;
 pub use meter::Meter;
 pub use ring::{backlog, response_bytes, Backlog};

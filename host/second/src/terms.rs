@@ -1,6 +1,6 @@
 //! Refusals, reasons, statuses and operations, by their numbers.
 
-/// Section 7: what a refused call answers.
+/// Sections 7 and 16: what a refused call answers.
 #[derive(Clone, Copy, Debug, PartialEq, Eq)]
 pub enum Refusal {
     /// Rule 7.1.
@@ -25,6 +25,16 @@ pub enum Refusal {
     SheetNumber = 14,
     /// Rule 7.15.
     SheetMissing = 15,
+    /// Section 16: a put with 32 requests outstanding.
+    RingFull = 31,
+    /// A put whose id is outstanding.
+    IdOutstanding = 32,
+    /// A put of a request that no backend would start.
+    BadRequest = 33,
+    /// A collect where rsp_prod is further ahead than requests are outstanding.
+    BadRspProd = 34,
+    /// A collect of a response that fits none of them.
+    NotOutstanding = 35,
 }
 
 /// Section 8: the check that a request fails first.

@@ -2,7 +2,7 @@
 
 use super::meters::{meter_classes, port_meter_classes};
 use super::sheets::{body_class, opened_by, protocol_fault, NUMBER, TEXT};
-use super::{class_of, reopened_class, served_after_class};
+use super::{class_of, reopened_class, served_after_class, LENGTHS};
 use crate::sheets::NEAR_PROTOCOLS;
 use kernelharp::layout::Abi;
 
@@ -27,7 +27,7 @@ pub fn expected_classes() -> Vec<String> {
     for number in [1, 2, 4, 6] {
         classes.push(format!("complete refused {number:02}"));
     }
-    for length in ["empty", "short", "long"] {
+    for length in LENGTHS {
         classes.push(format!("turn refused 01, rings {length}"));
         classes.push(format!("turn refused 01, grants {length}"));
         classes.push(format!("complete refused 01, rings {length}"));

@@ -1,9 +1,8 @@
 //! One ring page that a guest may write at the same time.
 
+use super::copy::lies_within;
 use crate::ffi::{Mapping, WORD_BYTES};
-use crate::layout::{
-    read_u32, write_u32, Abi, REQ_EVENT, REQ_PROD, RING_BYTES, RSP_EVENT, RSP_PROD, SLOTS,
-};
+use crate::layout::{write_u32, Abi, REQ_EVENT, REQ_PROD, RING_BYTES, RSP_EVENT, RSP_PROD, SLOTS};
 use std::sync::atomic::{fence, Ordering};
 
 /// A live ring page, and what the host itself counts of its port.
@@ -60,7 +59,7 @@ impl SharedPage {
         if self.broken {
             return;
         }
-        let req_prod = self.load(REQ_PROD);
+        let req_prod = self.page.number(REQ_PROD);
         // A request is read after the index that published it.
         fence(Ordering::Acquire);
         write_u32(private, REQ_PROD, req_prod);
@@ -70,7 +69,7 @@ impl SharedPage {
 
     /// Before a completion: rsp_event, the one guest word that it reads.
     pub fn copy_rsp_event_in(&self, private: &mut [u8; RING_BYTES]) {
-        write_u32(private, RSP_EVENT, self.load(RSP_EVENT));
+        self.page.copy_in(RSP_EVENT, WORD_BYTES, private);
     }
 
     /// After a turn that took a request, started or answered.
@@ -87,7 +86,7 @@ impl SharedPage {
     /// second turn that follow are for all ports at once, so they are the caller's.
     pub fn copy_req_event_out(&self, private: &[u8; RING_BYTES]) {
         if !self.broken {
-            self.copy_word_out(REQ_EVENT, private);
+            self.page.copy_out(REQ_EVENT, WORD_BYTES, private);
         }
     }
 
@@ -97,17 +96,16 @@ impl SharedPage {
     pub fn copy_response_out(&mut self, private: &[u8; RING_BYTES], call_said: bool) -> bool {
         let old = self.rsp_prod_pvt;
         let new = old.wrapping_add(1);
-        for at in words_of(self.abi.slot_at(old), self.abi.response_bytes()) {
-            self.copy_word_out(at, private);
-        }
+        let at = self.abi.slot_at(old);
+        self.page.copy_out(at, self.abi.response_bytes(), private);
         // The response is there before the index that publishes it.
         fence(Ordering::Release);
-        self.copy_word_out(RSP_PROD, private);
+        self.page.copy_out(RSP_PROD, WORD_BYTES, private);
         self.rsp_prod_pvt = new;
         // The index is out before the guest's wish is looked at again: it may have gone to sleep
         // since the call's look.
         fence(Ordering::SeqCst);
-        let rsp_event = self.load(RSP_EVENT);
+        let rsp_event = self.page.number(RSP_EVENT);
         call_said || lies_within(rsp_event, old, new)
     }
 
@@ -124,47 +122,9 @@ impl SharedPage {
         // Fewer than were copied when the guest has moved req_prod back.
         let held = self.copied.wrapping_sub(self.req_cons).min(waiting);
         for ahead in held..waiting {
-            let slot = self.abi.slot_at(self.req_cons.wrapping_add(ahead));
-            for at in words_of(slot, self.abi.slot_bytes()) {
-                write_u32(private, at, self.load(at));
-            }
+            let at = self.abi.slot_at(self.req_cons.wrapping_add(ahead));
+            self.page.copy_in(at, self.abi.slot_bytes(), private);
         }
         self.copied = req_prod;
-    }
-
-    /// Copies one word of the private page out.
-    fn copy_word_out(&self, at: usize, private: &[u8; RING_BYTES]) {
-        self.page.store(at, read_u32(private, at).to_le());
-    }
-
-    /// The number in one word of the live page.
-    fn load(&self, at: usize) -> u32 {
-        u32::from_le(self.page.load(at))
-    }
-}
-
-/// Where the words of so many bytes begin.
-fn words_of(at: usize, bytes: usize) -> impl Iterator<Item = usize> {
-    (at..at + bytes).step_by(WORD_BYTES)
-}
-
-/// Whether an index lies in (old, new], around the wrap too.
-fn lies_within(index: u32, old: u32, new: u32) -> bool {
-    new.wrapping_sub(index) < new.wrapping_sub(old)
-}
-
-#[cfg(test)]
-mod tests {
-    use super::lies_within;
-
-    #[test]
-    fn within_old_and_new() {
-        assert!(lies_within(6, 5, 6));
-        assert!(!lies_within(5, 5, 6));
-        assert!(!lies_within(7, 5, 6));
-        assert!(lies_within(6, 5, 9) && lies_within(9, 5, 9));
-        assert!(!lies_within(5, 5, 9) && !lies_within(10, 5, 9));
-        assert!(lies_within(0, u32::MAX, 0) && !lies_within(u32::MAX, u32::MAX, 0));
-        assert!(!lies_within(5, 5, 5));
     }
 }

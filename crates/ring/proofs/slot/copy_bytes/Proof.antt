@@ -10,13 +10,13 @@ use Rattle.ring.proofs.slot.copy_bytes.Statement.{statement}
 use Rattle.ring.proofs.slot.copy_bytes.Tie as tie
 
 abbrev Inv-loop : tie.InvT-loop
-Inv-loop rings from copy₀ to n i₀ copy i = (i ≤ n) × (length copy ≡ length copy₀) × Copied i rings from copy₀ to copy
+Inv-loop source from copy₀ to n i₀ copy i = (i ≤ n) × (length copy ≡ length copy₀) × Copied i source from copy₀ to copy
 
 abbrev μ-loop : tie.MeasureT-loop
-μ-loop rings from copy₀ to n i₀ copy i = n - i
+μ-loop source from copy₀ to n i₀ copy i = n - i
 
 loop-holds : tie.Need-loop-holds Inv-loop μ-loop
-loop-holds c = let a = c .args in (omega arith, refl, copied-none (a .rings .now) (a .from) (a .copy .now) (a .to))
+loop-holds c = let a = c .args in (omega arith, refl, copied-none (a .source .now) (a .from) (a .copy .now) (a .to))
 
 add-copy : tie.Need-add-copy Inv-loop μ-loop
 add-copy c = search needs
@@ -40,7 +40,7 @@ loop-again : tie.Need-loop-again Inv-loop μ-loop
 loop-again c =
     let a = c .before .before .before .args in
     let l = c .before .before .loop in
-    (omega arith, simp length-set (omega arith), copied-more (l .i) (a .rings .now) (a .from) (a .copy .now) (a .to) (l .copy) (l .inv .2) (omega arith))
+    (omega arith, simp length-set (omega arith), copied-more (l .i) (a .source .now) (a .from) (a .copy .now) (a .to) (l .copy) (l .inv .2) (omega arith))
 
 same-length : tie.Need-same-length Inv-loop μ-loop
 same-length c = search needs

@@ -1,0 +1,3 @@
+pub mod Guest
+pub mod Words
+pub mod Promise

@@ -1,0 +1,149 @@
+-- What a turn and a completion leave of the rings, by their answers, and what an idle turn and another port's response leave of one port's page. Assumes
+-- nothing.
+use mathlib.Core.Path.{_≡_, refl, sym, ap, _∙_, subst}
+use mathlib.Core.Logic.{_≢_}
+use mathlib.Core.Bool.{not, _&&_}
+use mathlib.Core.List.{List}
+use Prim.Native.Nat.{ℕ, zero, suc, _≤_, _<_}
+use native.Mathlib.Decide.{ℕ-discrete}
+use native.Mathlib.Omega.{arith}
+use lib.Dec.{ltb}
+use lib.IntN.{ℤ}
+use lib.ListN.{length}
+use Rattle.model.specs.Buffers.{ports, pageShare, ringsLength, areRings, areGrants, pageOf, setPage}
+use Rattle.model.specs.Calls.{Call, Open, Close, Turn, Complete, TurnEffect, CompleteEffect, Effect, Event}
+use Rattle.model.specs.Complete.{completed}
+use Rattle.model.specs.Port.{View, isClosed, after}
+use Rattle.model.specs.Ring.{setReqEvent}
+use Rattle.model.specs.Rules.{noPort, dueTurn, namesNone, tagOf, refusedCompletion, dueComplete, effectDue, due}
+use Rattle.model.specs.Turn.{ringAt, pendingAt, passedOver, armedPort, armed, idle, respondedAt, requestAt, settled, overran, servedBy, turned}
+use Rattle.model.specs.declared.Completed.{Completed}
+use Rattle.model.specs.declared.Pair.{Pair}
+use Rattle.model.specs.declared.Pending.{Pending}
+use Rattle.model.specs.declared.PortId.{PortId}
+use Rattle.model.specs.declared.Serial.{Serial}
+use Rattle.model.specs.declared.State.{State}
+use Rattle.model.specs.declared.Status.{Status}
+use Rattle.model.specs.declared.TagId.{TagId}
+use Rattle.model.specs.declared.Turned.{Turned}
+use Rattle.model.specs.declared.Verdict.{Verdict}
+use Rattle.model.proofs.Base.{by-cond}
+use Rattle.model.proofs.DueFacts.{AnsweredNow, Finished}
+use Rattle.model.proofs.Page.{length-pageOf, pageOf-setPage, length-setPage, pageOf-other, length-responded}
+use Rattle.model.proofs.Ring.{fits}
+use Rattle.halves.proofs.Page.{Quiet, quiet-refl, quiet-trans, quiet-reqEvent}
+
+-- ---- the rings
+
+-- where no response is given
+abbrev pub TurnLeft : View → List ℕ → List ℕ → Turned → Type 0
+TurnLeft v rings left (Turned.Refused n) = left ≡ rings
+TurnLeft v rings left Turned.Idle = left ≡ armed v rings ports
+TurnLeft v rings left (Turned.Overrun p) = (left ≡ rings) × (pendingAt v rings (p .0) ≡ Pending.Overrun)
+TurnLeft v rings left (Turned.Started p t s plan) = left ≡ rings
+TurnLeft v rings left (Turned.Answered p n z y) = Unit
+
+abbrev pub CompleteLeft : List ℕ → List ℕ → Completed → Type 0
+CompleteLeft rings left (Completed.Refused n) = left ≡ rings
+CompleteLeft rings left (Completed.Done p z y) = Unit
+
+abbrev TL : View → List ℕ → TurnEffect → Type 0
+TL v rings e = TurnLeft v rings (e .rings) (e .answer)
+
+settled-left : (v : View) (rings : List ℕ) (k : ℕ) (x : Verdict) → TL v rings (settled v rings k (requestAt v rings k) x)
+unfolding settled
+settled-left v rings k (Verdict.Refused n z) = tt
+settled-left v rings k (Verdict.Start plan) = refl
+
+served-left : (v : View) (rings grants : List ℕ) (k : ℕ) (d : Pending) → pendingAt v rings k ≡ d → TL v rings (servedBy v rings grants k d)
+unfolding servedBy overran idle
+served-left v rings grants k Pending.Nothing e = refl
+served-left v rings grants k Pending.Waits e = settled-left v rings k _
+served-left v rings grants k Pending.Overrun e = (refl, e)
+
+turn-left : (v : View) (rings grants words : List ℕ) → TL v rings (dueTurn v rings grants words)
+unfolding dueTurn turned idle
+turn-left v rings grants words =
+    by-cond (TL v rings) (not (areRings rings && areGrants grants)) _ _ (λ _. refl) (λ _.
+    by-cond (TL v rings) (ltb (passedOver v rings) ports) _ _ (λ _. served-left v rings grants _ _ refl) (λ _. refl))
+
+abbrev CL : List ℕ → CompleteEffect → Type 0
+CL rings e = CompleteLeft rings (e .rings) (e .answer)
+
+complete-left : (v : View) (rings : List ℕ) (p : PortId) (t : TagId) (s : Serial) (result : ℤ) → CL rings (dueComplete v rings p t s result)
+unfolding dueComplete refusedCompletion completed
+complete-left v rings p t s result =
+    by-cond (CL rings) (not (areRings rings)) _ _ (λ _. refl) (λ _.
+    by-cond (CL rings) (noPort p) _ _ (λ _. refl) (λ _.
+    by-cond (CL rings) (isClosed (v .state (p .0))) _ _ (λ _. refl) (λ _.
+    by-cond (CL rings) (namesNone (ringAt v (p .0)) t s (v .tag (p .0) (t .0))) _ _ (λ _. refl) (λ _. tt))))
+
+abbrev pub Left : View → (c : Call) → Effect c → Type 0
+Left v (Open p sheet) e = Unit
+Left v (Close p) e = Unit
+Left v (Turn rings grants words) e = TurnLeft v rings (e .rings) (e .answer)
+Left v (Complete rings p t s result) e = CompleteLeft rings (e .rings) (e .answer)
+
+left-facts : (v : View) (c : Call) → Left v c (effectDue v c)
+unfolding effectDue
+left-facts v (Open p sheet) = tt
+left-facts v (Close p) = tt
+left-facts v (Turn rings grants words) = turn-left v rings grants words
+left-facts v (Complete rings p t s result) = complete-left v rings p t s result
+
+-- of an event that is as due
+pub left-due : (v : View) (e : Event) → e ≡ due v (e .call) → Left v (e .call) (e .effect)
+left-due v e q = subst (λ (x : Event). Left v (x .call) (x .effect)) (sym q) (left-facts v (e .call))
+
+-- a response as the facts of an answer at once have it, and those of a completion
+pub answered-left : (v : View) (rings left : List ℕ) (k n : ℕ) (z : Status) → AnsweredNow v rings left k n z
+    → left ≡ respondedAt v rings k (requestAt v rings k .pair) z
+unfolding settled
+answered-left v rings left k n z f = f .written
+
+pub finished-left : (v : View) (rings left : List ℕ) (k : ℕ) (t : TagId) (s : Serial) (z : Status) → Finished v rings left k t s z
+    → left ≡ respondedAt v rings k (tagOf (v .tag k (t .0)) .pair) z
+unfolding completed
+finished-left v rings left k t s z f = f .written ∙ ap (λ (x : Status). respondedAt v rings k (tagOf (v .tag k (t .0)) .pair) x) (sym (f .status))
+
+-- ---- one port's page
+
+module _ (v : View) (rings : List ℕ) (k : ℕ) (small : k < ports) (sized : length rings ≡ ringsLength) where
+  -- another port's response leaves it
+  pub responded-other : (j : ℕ) (q : Pair) (z : Status) → j < ports → k ≢ j → pageOf (respondedAt v rings j q z) k ≡ pageOf rings k
+  unfolding respondedAt
+  responded-other j q z there ne =
+      let long = length-responded (ringAt v j) (fits (v .params j)) (pageOf rings j) (v .produced j) q z (length-pageOf rings j sized there) in
+      pageOf-other rings j sized there _ long k small ne
+
+  -- rings in which the port's page has other events
+  pub record Armed (left : List ℕ) : Type 0 where
+    pub long : length left ≡ ringsLength
+    quiet : Quiet (pageOf rings k) (pageOf left k)
+
+  armed-port : (left : List ℕ) (j c : ℕ) → j < ports → Armed left → (s : State) → Armed (armedPort s left j c)
+  armed-port left j c there a State.Closed = a
+  armed-port left j c there a State.Broken = a
+  armed-port left j c there a State.Open =
+      let new = setReqEvent (pageOf left j) (after c) in
+      let q : Quiet (pageOf left j) new = quiet-reqEvent (pageOf left j) (after c) in
+      let size : length new ≡ pageShare = q .long ∙ length-pageOf left j (a .long) there in
+      record {
+        long = length-setPage left j (a .long) there new size ∙ a .long;
+        quiet =
+            elim (ℕ-discrete k j) [
+              | yes e ↦
+                  quiet-trans (a .quiet) (subst (λ (i : ℕ). Quiet (pageOf left i) (pageOf (setPage left j new) i)) (sym e)
+                  (rw (pageOf-setPage left j (a .long) there new size) q))
+              | no e ↦ rw (pageOf-other left j (a .long) there new size k small e) (a .quiet)
+            ];
+      }
+
+  pub armed-all : (n : ℕ) → n ≤ ports → Armed (armed v rings n)
+  unfolding armed
+  armed-all zero l = record { long = sized; quiet = quiet-refl (pageOf rings k) }
+  armed-all (suc n) l = armed-port (armed v rings n) n (v .consumed n) (omega arith) (armed-all n (omega arith)) (v .state n)
+
+  -- an idle turn writes its req_event alone
+  pub idle-quiet : Quiet (pageOf rings k) (pageOf (armed v rings ports) k)
+  idle-quiet = armed-all ports (omega arith) .quiet

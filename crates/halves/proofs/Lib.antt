@@ -1,0 +1,10 @@
+pub mod Page
+pub mod Slot
+pub mod Lists
+pub mod Half
+pub mod Left
+pub mod Steps
+pub mod Before
+pub mod Together
+pub mod Events
+pub mod Wakeups

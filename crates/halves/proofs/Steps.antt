@@ -1,0 +1,227 @@
+-- Each call of the backend keeps a guest and its page together with the books of its port: by the call's deeds, and by what it leaves of the page. Assumes
+-- nothing.
+use mathlib.Core.Path.{_≡_, refl, sym, ap, _∙_, subst}
+use mathlib.Core.Logic.{_≢_}
+use mathlib.Core.Bool.{Bool, true, false}
+use mathlib.Core.List.{List, [], _∷_, _++_, append-nil}
+use Prim.Native.Nat.{ℕ, _+_, _-_, _%_, _≤_, _<_}
+use native.Mathlib.Omega.{arith}
+use lib.Dec.{eqb, leb}
+use lib.ListN.{length}
+use borrow.Author.Tests.{leb-false, eqb-true, eqb-false, eq-eqb, ne-eqb}
+use Rattle.model.specs.Base.{modulus}
+use Rattle.model.specs.Buffers.{ports, ringsLength, pageOf}
+use Rattle.model.specs.Calls.{Event}
+use Rattle.model.specs.Complete.{expectedOf}
+use Rattle.model.specs.Deeds.{Deed, opening, closing, breaking, starting, answering, finishing, portOf, paramsIn, openDeeds, closeDeeds, turnDeeds, completeDeeds}
+use Rattle.model.specs.History.{atOnce, started, said, answerTo, entry, posts, book, unfinished, viewAt}
+use Rattle.model.specs.NodeSheet.{sheetOf}
+use Rattle.model.specs.Port.{isClosed, isOpen, distance, pendingOf, isWork}
+use Rattle.model.specs.Ring.{Request, ringFor}
+use Rattle.model.specs.Turn.{ringAt, pendingAt, hasWork, responded, respondedAt}
+use Rattle.model.specs.declared.Completed.{Completed}
+use Rattle.model.specs.declared.Pair.{Pair}
+use Rattle.model.specs.declared.Pending.{Pending}
+use Rattle.model.specs.declared.PortId.{PortId}
+use Rattle.model.specs.declared.Reply.{Reply}
+use Rattle.model.specs.declared.Serial.{Serial}
+use Rattle.model.specs.declared.State.{State}
+use Rattle.model.specs.declared.Status.{Status}
+use Rattle.model.specs.declared.TagId.{TagId}
+use Rattle.model.specs.declared.Turned.{Turned}
+use Rattle.model.proofs.Base.{by-cond, clash, and-right}
+use Rattle.model.proofs.Conservation.{Sound, numbers}
+use Rattle.model.proofs.DueFacts.{Chosen, chosen-lt, Started, AnsweredNow, Finished, TurnFacts, CompleteFacts}
+use Rattle.model.proofs.Ledger.{length-answerTo, pairs-answerTo}
+use Rattle.model.proofs.Page.{length-pageOf, pageOf-setPage, length-responded}
+use Rattle.model.proofs.Permitted.{view-ring, view-consumed, view-produced, view-inFlight, view-state, chosen-open}
+use Rattle.model.proofs.Ring.{fits}
+use Rattle.frontend.specs.Guest.{guestRing, Guest}
+use Rattle.halves.specs.System.{Gathered, took, tookAll}
+use Rattle.halves.proofs.Page.{Quiet, quiet-refl}
+use Rattle.halves.proofs.Half.{Half, put-count, half-quiet, half-state, half-take, half-respond, modular, answered-le}
+use Rattle.halves.proofs.Left.{TurnLeft, CompleteLeft, answered-left, finished-left, responded-other, idle-quiet}
+
+-- ---- what req_prod says
+
+work-some : (size u d : ℕ) → isWork (pendingOf size u d) ≡ true → 0 < d
+unfolding pendingOf
+work-some size u d =
+    by-cond (λ (p : Pending). isWork p ≡ true → 0 < d) (eqb d 0) _ _ (λ _ e. clash e refl) (λ z _.
+    let n : d ≢ 0 = eqb-false d 0 z in
+    omega arith)
+
+no-overrun : (size u d : ℕ) → d + u ≤ size → pendingOf size u d ≢ Pending.Overrun
+unfolding pendingOf
+no-overrun size u d l =
+    by-cond (λ (p : Pending). p ≢ Pending.Overrun) (eqb d 0) _ _ (λ _ e. let bad : _≡_ {A = ℕ} 0 1 = cc in omega arith) (λ _.
+    by-cond (λ (p : Pending). p ≢ Pending.Overrun) (leb d (size - u)) _ _ (λ _ e. let bad : _≡_ {A = ℕ} 0 1 = cc in omega arith) (λ f e.
+    let m : size - u < d = leb-false d (size - u) f in
+    omega arith))
+
+-- ---- deeds
+
+module _ (k : ℕ) (small : k < ports) (h : List Event) {g : Guest} {page : List ℕ} {put : List Request} {collected : List Gathered}
+    {slots : List (List ℕ)} (w : Half g page put collected (book k h) slots) (sound : Sound (book k h)) where
+  -- guest, page and books after deeds that leave this page
+  abbrev pub After : List ℕ → List Deed → Type 0
+  After new ds = Half g new put collected (posts k ds (book k h)) (slots ++ tookAll k ds (book k h))
+
+  -- none
+  after-none : (new : List ℕ) → Quiet page new → After new []
+  after-none new q = rw (append-nil slots) (half-quiet w new q)
+
+  -- one of another port
+  after-other : (new : List ℕ) (d : Deed) → k ≢ portOf d → Quiet page new → After new (d ∷ [])
+  after-other new d e q = rw (ne-eqb k (portOf d) e) (after-none new q)
+
+  -- one of its own
+  after-own : (new : List ℕ) (d : Deed) → k ≡ portOf d → Half g new put collected (entry d (book k h)) (slots ++ took d (book k h)) → After new (d ∷ [])
+  after-own new d e a = rw (eq-eqb k (portOf d) e, append-nil (took d (book k h))) a
+
+  -- the port is this one or another
+  by-port : (P : ℕ → Type 0) (j : ℕ) → P k → (k ≢ j → P j) → P j
+  by-port P j own other = go (eqb k j) refl
+    where
+      go : (c : Bool) → eqb k j ≡ c → P j
+      go true c = subst P (eqb-true k j c) own
+      go false c = other (eqb-false k j c)
+
+  unmoved : (left rings : List ℕ) → pageOf rings k ≡ page → pageOf left k ≡ pageOf rings k → Quiet page (pageOf left k)
+  unmoved left rings here e = rw (e, here) (quiet-refl page)
+
+  same-rings : (left rings : List ℕ) → pageOf rings k ≡ page → left ≡ rings → Quiet page (pageOf left k)
+  same-rings left rings here e = unmoved left rings here (ap (λ (x : List ℕ). pageOf x k) e)
+
+  -- ---- what the rules see of the port
+
+  module _ (rings : List ℕ) (here : pageOf rings k ≡ page) where
+    -- the distance is that of the counts
+    pub pending-is : isClosed (book k h .state) ≡ false
+        → pendingAt (viewAt h) rings k ≡ pendingOf (guestRing .size) (length (unfinished (book k h .taken))) (length put - length (book k h .taken))
+    unfolding pendingAt distance
+    pending-is opened =
+        rw (view-ring k h opened, w .ring, view-consumed k h opened, view-inFlight k h opened, here, w .holds .asked)
+        (ap (λ (d : ℕ). pendingOf (guestRing .size) (length (unfinished (book k h .taken))) d)
+        (modular (length put) (length (book k h .taken)) (w .behind)
+        (omega (arith, put-count (w .mine), w .mine .few, w .unread, answered-le w sound))))
+
+    chosen-some : Chosen (viewAt h) rings k → length (book k h .taken) < length put
+    unfolding hasWork
+    chosen-some f =
+        let x : isWork (pendingAt (viewAt h) rings k) ≡ true = and-right (isOpen (viewAt h .state k)) _ (f .works) in
+        omega (arith, work-some _ _ _ (rw (pending-is (chosen-open k h sound rings f)) at x))
+
+    pub never-overruns : Chosen (viewAt h) rings k → pendingAt (viewAt h) rings k ≢ Pending.Overrun
+    unfolding ringFor
+    never-overruns f e =
+        no-overrun (guestRing .size) (length (unfinished (book k h .taken))) (length put - length (book k h .taken))
+        (omega (arith, put-count (w .mine), w .mine .few, w .unread, w .behind, numbers (book k h) sound))
+        (sym (pending-is (chosen-open k h sound rings f)) ∙ e)
+
+    -- the page after a response of its own
+    pub responded-here : (left : List ℕ) (q : Pair) (z : Status) → isClosed (book k h .state) ≡ false → length rings ≡ ringsLength
+        → left ≡ respondedAt (viewAt h) rings k q z → pageOf left k ≡ responded guestRing page (length (book k h .answered) % modulus) q z
+    unfolding respondedAt
+    responded-here left q z opened sized e =
+        let r = ringAt (viewAt h) k in
+        let i = viewAt h .produced k in
+        let long = length-responded r (fits (viewAt h .params k)) (pageOf rings k) i q z (length-pageOf rings k sized small) in
+        ap (λ (x : List ℕ). pageOf x k) e
+        ∙ pageOf-setPage rings k sized small (responded r (pageOf rings k) i q z) long
+        ∙ rw (view-ring k h opened, w .ring, view-produced k h opened, here)
+
+    -- ---- its own deeds
+
+    own-start : (t s x : ℕ) → Chosen (viewAt h) rings k → (left : List ℕ) → left ≡ rings → After (pageOf left k) (starting k rings t s x ∷ [])
+    own-start t s x f left e =
+        after-own (pageOf left k) (starting k rings t s x) refl
+        (half-quiet (half-take w k rings (started t s x) [] here (chosen-some f)) (pageOf left k) (same-rings left rings here e))
+
+    own-answer : (left : List ℕ) (n : ℕ) (z : Status) → AnsweredNow (viewAt h) rings left k n z → After (pageOf left k) (answering k rings left z ∷ [])
+    unfolding said
+    own-answer left n z f =
+        after-own (pageOf left k) (answering k rings left z) refl
+        (half-respond
+        (half-take w k rings atOnce (said k left z (book k h) ∷ []) here (chosen-some (f .choice)))
+        k left _ z _ refl refl
+        (responded-here left _ z (chosen-open k h sound rings (f .choice)) (f .choice .sized) (answered-left (viewAt h) rings left k n z f))
+        (omega (arith, answered-le w sound)))
+
+    own-finish : (left : List ℕ) (t : TagId) (s : Serial) (z : Status) → Finished (viewAt h) rings left k t s z
+        → Sound (posts k (finishing k left (t .0) (s .0) z ∷ []) (book k h)) → After (pageOf left k) (finishing k left (t .0) (s .0) z ∷ [])
+    own-finish left t s z f o =
+        let a = said k left z (book k h) in
+        let taken = book k h .taken in
+        let long = length-answerTo (t .0) (s .0) a taken in
+        let new : Sound (entry (finishing k left (t .0) (s .0) z) (book k h)) = rw (eq-eqb k k refl) at o in
+        after-own (pageOf left k) (finishing k left (t .0) (s .0) z) refl
+        (rw (append-nil slots)
+        (half-respond w k left _ z (answerTo (t .0) (s .0) a taken) long (pairs-answerTo (t .0) (s .0) a taken)
+        (responded-here left _ z (rw view-state at (f .opened)) (f .sized) (finished-left (viewAt h) rings left k t s z f))
+        (omega (arith, numbers (entry (finishing k left (t .0) (s .0) z) (book k h)) new))))
+
+  -- ---- calls
+
+  pub after-open : (p : PortId) (sheet : List ℕ) (e : Reply) → k ≢ p .0 → After page (openDeeds (p .0) sheet e)
+  after-open p sheet (Reply.Refused n) ne = after-none page (quiet-refl page)
+  after-open p sheet Reply.Done ne = after-other page (opening (p .0) (paramsIn (sheetOf sheet))) ne (quiet-refl page)
+
+  pub after-close : (p : PortId) (e : Reply) → After page (closeDeeds (p .0) e)
+  after-close p (Reply.Refused n) = after-none page (quiet-refl page)
+  after-close p Reply.Done =
+      by-port (λ j. After page (closing j ∷ [])) (p .0)
+      (after-own page (closing k) refl (rw (append-nil slots) (half-state w State.Closed)))
+      (λ ne. after-other page (closing (p .0)) ne (quiet-refl page))
+
+  module _ (rings : List ℕ) (sized : length rings ≡ ringsLength) (here : pageOf rings k ≡ page) where
+    -- another port's response
+    other-quiet : (left : List ℕ) (j : ℕ) (q : Pair) (z : Status) → j < ports → k ≢ j → left ≡ respondedAt (viewAt h) rings j q z → Quiet page (pageOf left k)
+    other-quiet left j q z there ne e =
+        unmoved left rings here (ap (λ (x : List ℕ). pageOf x k) e ∙ responded-other (viewAt h) rings k small sized j q z there ne)
+
+    pub after-turn : (left : List ℕ) (x : Turned) → TurnFacts (viewAt h) rings left x → TurnLeft (viewAt h) rings left x
+        → After (pageOf left k) (turnDeeds rings left x)
+    after-turn left (Turned.Refused n) f e = after-none _ (same-rings left rings here e)
+    after-turn left Turned.Idle f e =
+        after-none _ (subst (λ (y : List ℕ). Quiet y (pageOf left k)) here (rw e (idle-quiet (viewAt h) rings k small sized)))
+    after-turn left (Turned.Overrun p) f e =
+        by-port
+        (λ j. Chosen (viewAt h) rings j → pendingAt (viewAt h) rings j ≡ Pending.Overrun → After (pageOf left k) (breaking j ∷ []))
+        (p .0)
+        (λ c o. absurd (never-overruns rings here c o))
+        (λ ne c o. after-other _ (breaking (p .0)) ne (same-rings left rings here (e .0)))
+        f
+        (e .1)
+    after-turn left (Turned.Started p t s plan) f e =
+        by-port
+        (λ j. Chosen (viewAt h) rings j → After (pageOf left k) (starting j rings (t .0) (s .0) (expectedOf plan) ∷ []))
+        (p .0)
+        (λ c. own-start rings here (t .0) (s .0) (expectedOf plan) c left e)
+        (λ ne c. after-other _ (starting (p .0) rings (t .0) (s .0) (expectedOf plan)) ne (same-rings left rings here e))
+        (f .choice)
+    after-turn left (Turned.Answered p n z y) f e =
+        by-port
+        (λ j. AnsweredNow (viewAt h) rings left j n z → After (pageOf left k) (answering j rings left z ∷ []))
+        (p .0)
+        (λ a. own-answer rings here left n z a)
+        (λ ne a.
+        after-other _ (answering (p .0) rings left z) ne
+        (other-quiet left (p .0) _ z (chosen-lt (a .choice)) ne (answered-left (viewAt h) rings left (p .0) n z a)))
+        f
+
+    pub after-complete : (left : List ℕ) (p : PortId) (t : TagId) (s : Serial) (x : Completed) → CompleteFacts (viewAt h) rings left p t s x
+        → CompleteLeft rings left x → Sound (posts k (completeDeeds left (p .0) (t .0) (s .0) x) (book k h))
+        → After (pageOf left k) (completeDeeds left (p .0) (t .0) (s .0) x)
+    after-complete left p t s (Completed.Refused n) f e o = after-none _ (same-rings left rings here e)
+    after-complete left p t s (Completed.Done q z y) f e o =
+        by-port
+        (λ j. Finished (viewAt h) rings left j t s z → Sound (posts k (finishing j left (t .0) (s .0) z ∷ []) (book k h))
+        → After (pageOf left k) (finishing j left (t .0) (s .0) z ∷ []))
+        (p .0)
+        (λ a. own-finish rings here left t s z a)
+        (λ ne a _.
+        after-other _ (finishing (p .0) left (t .0) (s .0) z) ne
+        (other-quiet left (p .0) _ z (a .small) ne (finished-left (viewAt h) rings left (p .0) t s z a)))
+        f
+        o

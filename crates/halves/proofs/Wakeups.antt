@@ -1,0 +1,328 @@
+-- Nobody sleeps over work: whoever waits and was not told has armed its event for the very next count, and has nothing to do. Each step of either half keeps
+-- that, beside what the theorem of both halves keeps. Assumes nothing but what the theorem states.
+use mathlib.Core.Path.{_≡_, refl, sym, ap, _∙_, subst}
+use mathlib.Core.Logic.{_≢_}
+use mathlib.Core.Bool.{Bool, true, false, not, _&&_, _||_}
+use mathlib.Core.List.{List, [], _∷_, _++_, append-nil}
+use Prim.Native.Nat.{ℕ, _+_, _-_, _%_, _<_}
+use native.Mathlib.Decide.{ℕ-discrete}
+use native.Mathlib.Omega.{arith}
+use lib.Dec.{eqb, ltb, leb}
+use lib.ListN.{length}
+use borrow.Author.Tests.{eqb-true, eqb-false, eq-eqb, ne-eqb, not-false}
+use Rattle.model.specs.Backend.{eventOn}
+use Rattle.model.specs.Base.{modulus}
+use Rattle.model.specs.Buffers.{ports, ringsLength, pageOf, setPage}
+use Rattle.model.specs.Calls.{Open, Close}
+use Rattle.model.specs.Deeds.{Deed, closing, answering, finishing, portOf, openDeeds, closeDeeds, turnDeeds, completeDeeds}
+use Rattle.model.specs.Demand.{All, IsBytes}
+use Rattle.model.specs.History.{Book, said, entry, posts, book, unfinished, viewAt}
+use Rattle.model.specs.Port.{View, isClosed, isOpen, isWork, after}
+use Rattle.model.specs.Ring.{Request, reqEvent, rspEvent}
+use Rattle.model.specs.Turn.{pendingAt, hasWork, lookedAt, armed, respondedAt, notifies}
+use Rattle.model.specs.declared.Completed.{Completed}
+use Rattle.model.specs.declared.Pair.{Pair}
+use Rattle.model.specs.declared.PortId.{PortId}
+use Rattle.model.specs.declared.Reply.{Reply}
+use Rattle.model.specs.declared.Serial.{Serial}
+use Rattle.model.specs.declared.State.{State}
+use Rattle.model.specs.declared.Status.{Status}
+use Rattle.model.specs.declared.TagId.{TagId}
+use Rattle.model.specs.declared.Turned.{Turned}
+use Rattle.model.proofs.Base.{by-cond, clash, or-left, or-right}
+use Rattle.model.proofs.DueFacts.{Chosen, chosen-lt, Finished, TurnFacts, CompleteFacts, facts-due}
+use Rattle.model.proofs.Fairness.{work-is}
+use Rattle.model.proofs.Ledger.{length-answerTo}
+use Rattle.model.proofs.Page.{length-pageOf}
+use Rattle.model.proofs.Permitted.{view-consumed, view-produced, view-state, chosen-open}
+use Rattle.model.proofs.Refinement.{told-step}
+use Rattle.frontend.specs.Guest.{guestPage, guestRing, isPage, mostOutstanding, has, sameId, samePair, isBad, slotFor, PutEffect, putDue, puts, ahead, nextPair, CollectEffect, collectDue, collects, waits}
+use Rattle.halves.specs.Claim.{Lends}
+use Rattle.halves.specs.System.{System, Step, putting, collecting, turning, completing, openingOther, closingAny, logPut, logCollected, turnOn, completeOn, step, atOpening}
+use Rattle.halves.specs.Wakeups.{Waits, nobodyWaits, afterPut, afterCollect, afterTurn, afterCompletion, waitsAfter, Rests, RestsAfter, WakeupTheorem}
+use Rattle.halves.proofs.Slot.{slot-length}
+use Rattle.halves.proofs.Half.{ahead-is}
+use Rattle.halves.proofs.Left.{TurnLeft, CompleteLeft, left-due, answered-left, finished-left, responded-other}
+use Rattle.halves.proofs.Events.{TurnTold, CompleteTold, rsp-set, req-left, rsp-put, req-responded, rsp-armed, req-armed, idle-page, idle-all, tells-due}
+use Rattle.halves.proofs.Steps.{pending-is, responded-here}
+use Rattle.halves.proofs.Before.{before-all}
+use Rattle.halves.proofs.Together.{Kept, kept-first, sound-here, lent-bytes, lent-sized, lent-here, kept-step}
+
+-- ---- what is kept
+
+-- Of who waits and was not told: its event in the page is that of the next response or request, and it has collected or taken all. P were put, Q collected.
+record Armed (page : List ℕ) (P Q : ℕ) (b : Book) (z : Waits) : Type 0 where
+  guest : z .guest ≡ true → z .guestTold ≡ false → (rspEvent page ≡ (Q + 1) % modulus) × (Q ≡ length (b .answered))
+  backend : z .backend ≡ true → z .backendTold ≡ false → isOpen (b .state) ≡ true
+      → (reqEvent page ≡ (length (b .taken) + 1) % modulus) × (length (b .taken) ≡ P)
+
+abbrev ArmedIn : ℕ → System → Waits → Type 0
+ArmedIn k w z = Armed (w .page) (length (w .put)) (length (w .collected)) (book k (w .events)) z
+
+open-not-closed : (s : State) → isOpen s ≡ true → isClosed s ≡ false
+open-not-closed State.Closed e = clash e refl
+open-not-closed State.Open e = refl
+open-not-closed State.Broken e = refl
+
+-- the next index by its remainder
+after-mod : (n : ℕ) → after (n % modulus) ≡ (n + 1) % modulus
+after-mod n = omega arith
+
+-- ---- the guest's steps
+
+module _ (k : ℕ) (small : k < ports) (w : System) (h : Kept k w) (z : Waits) (a : ArmedIn k w z) where
+  abbrev b : Book
+  b = book k (w .events)
+
+  abbrev sized : length (w .page) ≡ guestPage
+  sized = h .half .holds .sized
+
+  abbrev PutArmed : Request → PutEffect → Type 0
+  PutArmed r e = Armed (e .page) (length (w .put ++ logPut (e .answer) r)) (length (w .collected)) b (afterPut z (e .answer))
+
+  not-put : Armed (w .page) (length (w .put ++ [])) (length (w .collected)) b z
+  not-put = rw (append-nil (w .put)) a
+
+  -- a backend that waits untold has armed for this very put
+  put-tells : z .backend ≡ true → z .backendTold ≡ false → isOpen (b .state) ≡ true → eqb (reqEvent (w .page)) (after (w .guest .put)) ≡ false → ⊥
+  put-tells x y o e =
+      let c = a .backend x y o in
+      eqb-false _ _ e (c .0 ∙ sym (rw (h .half .mine .index, ← c .1) (after-mod (length (b .taken)))))
+
+  put-done : (r : Request) → PutArmed r (puts (w .guest) (w .page) r)
+  unfolding puts
+  put-done r = record {
+    guest = λ x y. (rsp-put (w .page) sized (w .guest .put) (slotFor r) (slot-length r) ∙ a .guest x y .0, a .guest x y .1);
+    backend = λ x y o. absurd (put-tells x (or-left _ _ y) o (or-right (z .backendTold) _ y));
+  }
+
+  put-armed : (r : Request) → PutArmed r (putDue (w .guest) (w .page) r)
+  unfolding putDue
+  put-armed r =
+      by-cond (PutArmed r) (not (isPage (w .page))) _ _ (λ _. not-put) (λ _.
+      by-cond (PutArmed r) (leb mostOutstanding (length (w .guest .outstanding))) _ _ (λ _. not-put) (λ _.
+      by-cond (PutArmed r) (has (sameId (r .pair .id)) (w .guest .outstanding)) _ _ (λ _. not-put) (λ _.
+      by-cond (PutArmed r) (isBad r) _ _ (λ _. not-put) (λ _. put-done r))))
+
+  abbrev CollectArmed : CollectEffect → Type 0
+  CollectArmed e = Armed (e .page) (length (w .put)) (length (w .collected ++ logCollected (e .answer))) b (afterCollect z (e .answer))
+
+  not-collected : Armed (w .page) (length (w .put)) (length (w .collected ++ [])) b z
+  not-collected = rw (append-nil (w .collected)) a
+
+  waits-armed : eqb (ahead (w .guest) (w .page)) 0 ≡ true → CollectArmed (waits (w .guest) (w .page))
+  unfolding waits
+  waits-armed e =
+      rw (append-nil (w .collected))
+      record {
+        guest = λ _ _. (
+          rsp-set (w .page) sized (w .guest .collected) ∙ rw (h .half .mine .place) (after-mod (length (w .collected))),
+          omega (arith, eqb-true (ahead (w .guest) (w .page)) 0 e, ahead-is (h .half) (sound-here k small w h), h .half .unread),
+        );
+        backend = λ x y o. (req-left (w .page) sized (after (w .guest .collected)) ∙ a .backend x y o .0, a .backend x y o .1);
+      }
+
+  collects-armed : CollectArmed (collects (w .guest) (w .page))
+  unfolding collects
+  collects-armed = record { guest = λ x y. clash x refl; backend = a .backend }
+
+  collect-armed : CollectArmed (collectDue (w .guest) (w .page))
+  unfolding collectDue
+  collect-armed =
+      by-cond CollectArmed (not (isPage (w .page))) _ _ (λ _. not-collected) (λ _.
+      by-cond CollectArmed (ltb (length (w .guest .outstanding)) (ahead (w .guest) (w .page))) _ _ (λ _. not-collected) (λ _.
+      by-cond CollectArmed (eqb (ahead (w .guest) (w .page)) 0) _ _ waits-armed (λ _.
+      by-cond CollectArmed (not (has (samePair (nextPair (w .guest) (w .page))) (w .guest .outstanding))) _ _ (λ _. not-collected) (λ _. collects-armed))))
+
+  -- ---- the backend's
+
+  -- where all that counts stays
+  module _ (page : List ℕ) (same : page ≡ w .page) where
+    armed-same : Armed page (length (w .put)) (length (w .collected)) b z
+    armed-same = rw same a
+
+    -- the guest's part, of a turn that is done, while the answers stay; the backend waits no more
+    armed-guest : (c : Book) → length (c .answered) ≡ length (b .answered)
+        → Armed page (length (w .put)) (length (w .collected)) c (record { guest = z .guest; guestTold = z .guestTold; backend = false; backendTold = false })
+    armed-guest c e = record { guest = λ x y. rw (same, e) (a .guest x y); backend = λ x y o. clash x refl }
+
+  module _ (others : List ℕ) (bytes : IsBytes others) (long : length others ≡ ringsLength) where
+    abbrev v : View
+    v = viewAt (w .events)
+
+    abbrev rings : List ℕ
+    rings = setPage others k (w .page)
+
+    here : pageOf rings k ≡ w .page
+    here = lent-here k small w h others bytes long
+
+    whole : length rings ≡ ringsLength
+    whole = lent-sized k small w h others bytes long
+
+    same-rings : (left : List ℕ) → left ≡ rings → pageOf left k ≡ w .page
+    same-rings left e = ap (λ (x : List ℕ). pageOf x k) e ∙ here
+
+    -- nothing is left to take of a port that is open and has no work
+    none-waits : isOpen (b .state) ≡ true → hasWork v rings k ≡ false → length (b .taken) ≡ length (w .put)
+    unfolding hasWork
+    none-waits o e =
+        let u = length (unfinished (b .taken)) in
+        let d = length (w .put) - length (b .taken) in
+        let opened : isOpen (v .state k) ≡ true = rw view-state o in
+        let quiet : isWork (pendingAt v rings k) ≡ false = rw opened at e in
+        let is = pending-is k small (w .events) (h .half) (sound-here k small w h) rings here (open-not-closed (b .state) o) in
+        let n : not (eqb d 0) ≡ false = sym (work-is (guestRing .size) u d) ∙ ap isWork (sym is) ∙ quiet in
+        omega (arith, eqb-true d 0 (not-false (eqb d 0) n), h .half .behind)
+
+    idle-armed : ((i : ℕ) → i < ports → hasWork v rings (lookedAt v i) ≡ false)
+        → Armed (pageOf (armed v rings ports) k) (length (w .put)) (length (w .collected)) b
+        (record { guest = z .guest; guestTold = z .guestTold; backend = true; backendTold = false })
+    idle-armed f =
+        let is = idle-page v rings k small whole in
+        let size = length-pageOf rings k whole small in
+        record {
+          guest = λ x y. (
+            ap rspEvent is ∙ rsp-armed (pageOf rings k) size (v .consumed k) (v .state k) ∙ ap rspEvent here ∙ a .guest x y .0,
+            a .guest x y .1,
+          );
+          backend = λ x y o. (
+            ap reqEvent is
+                ∙ req-armed (pageOf rings k) size (v .consumed k) (v .state k) (rw view-state o)
+                ∙ ap after (view-consumed k (w .events) (open-not-closed (b .state) o))
+                ∙ after-mod (length (b .taken)),
+            none-waits o (idle-all v rings k small f),
+          );
+        }
+
+    -- a guest that waits untold has armed for this very response
+    response-tells : isClosed (b .state) ≡ false → z .guest ≡ true → z .guestTold ≡ false → notifies v rings k ≡ false → ⊥
+    unfolding notifies
+    response-tells o x y e =
+        let c = a .guest x y in
+        let produced : after (v .produced k) ≡ (length (w .collected) + 1) % modulus =
+        ap after (view-produced k (w .events) o) ∙ after-mod (length (b .answered)) ∙ ap (λ (n : ℕ). (n + 1) % modulus) (sym (c .1)) in
+        eqb-false _ _ e (ap rspEvent here ∙ c .0 ∙ sym produced)
+
+    -- so after a deed with a response it was told, or the deed was another port's
+    guest-armed : (left : List ℕ) (d : Deed) (y : Bool) → y ≡ notifies v rings (portOf d) → (k ≡ portOf d → isClosed (b .state) ≡ false)
+        → (k ≢ portOf d → pageOf left k ≡ w .page) → z .guest ≡ true → z .guestTold || eqb k (portOf d) && y ≡ false
+        → (rspEvent (pageOf left k) ≡ (length (w .collected) + 1) % modulus) × (length (w .collected) ≡ length (posts k (d ∷ []) b .answered))
+    guest-armed left d y told own other x t =
+        let j = portOf d in
+        let untold : z .guestTold ≡ false = or-left (z .guestTold) (eqb k j && y) t in
+        let quiet : eqb k j && y ≡ false = or-right (z .guestTold) (eqb k j && y) t in
+        elim (ℕ-discrete k j) [
+          | yes e ↦ absurd (response-tells (own e) x untold (ap (λ (i : ℕ). notifies v rings i) e ∙ sym told ∙ (rw (eq-eqb k j e) at quiet)))
+          | no e ↦ rw (ne-eqb k j e) (ap rspEvent (other e) ∙ a .guest x untold .0, a .guest x untold .1)
+        ]
+
+    -- another port's response
+    other-page : (left : List ℕ) (j : ℕ) (q : Pair) (s : Status) → j < ports → k ≢ j → left ≡ respondedAt v rings j q s → pageOf left k ≡ w .page
+    other-page left j q s there ne e = ap (λ (x : List ℕ). pageOf x k) e ∙ responded-other v rings k small whole j q s there ne ∙ here
+
+    turn-armed : (left : List ℕ) (x : Turned) → TurnFacts v rings left x → TurnLeft v rings left x → TurnTold v rings x
+        → Armed (pageOf left k) (length (w .put)) (length (w .collected)) (posts k (turnDeeds rings left x) b) (afterTurn k z x)
+    turn-armed left (Turned.Refused n) f e t = armed-same (pageOf left k) (same-rings left e)
+    turn-armed left Turned.Idle f e t = rw e (idle-armed f)
+    turn-armed left (Turned.Overrun p) f e t =
+        armed-guest (pageOf left k) (same-rings left (e .0)) _
+        (by-cond (λ (c : Book). length (c .answered) ≡ length (b .answered)) (eqb k (p .0)) _ _ (λ _. refl) (λ _. refl))
+    turn-armed left (Turned.Started p t s plan) f e y =
+        armed-guest (pageOf left k) (same-rings left e) _
+        (by-cond (λ (c : Book). length (c .answered) ≡ length (b .answered)) (eqb k (p .0)) _ _ (λ _. refl) (λ _. refl))
+    turn-armed left (Turned.Answered p n s y) f e t = record {
+      guest =
+          guest-armed left (answering (p .0) rings left s) y t
+          (λ q. chosen-open k (w .events) (sound-here k small w h) rings (subst (λ (j : ℕ). Chosen v rings j) (sym q) (f .choice)))
+          (λ ne. other-page left (p .0) _ s (chosen-lt (f .choice)) ne (answered-left v rings left (p .0) n s f));
+      backend = λ x y o. clash x refl;
+    }
+
+    module _ (left : List ℕ) (p : PortId) (t : TagId) (s : Serial) (y : Status) (f : Finished v rings left (p .0) t s y) where
+      abbrev deed : Deed
+      deed = finishing (p .0) left (t .0) (s .0) y
+
+      left-other : k ≢ p .0 → pageOf left k ≡ w .page
+      left-other ne = other-page left (p .0) _ y (f .small) ne (finished-left v rings left (p .0) t s y f)
+
+      own : k ≡ p .0 → Finished v rings left k t s y
+      own e = subst (λ (j : ℕ). Finished v rings left j t s y) (sym e) f
+
+      opened : k ≡ p .0 → isClosed (b .state) ≡ false
+      opened e = rw view-state at (own e .opened)
+
+      req-own : k ≡ p .0 → reqEvent (pageOf left k) ≡ reqEvent (w .page)
+      req-own e =
+          ap reqEvent
+          (responded-here k small (w .events) (h .half) (sound-here k small w h) rings here left _ y (opened e) whole
+          (finished-left v rings left k t s y (own e)))
+          ∙ req-responded (w .page) sized _ _ y
+
+      -- what the backend waits for is as it was
+      backend-armed : z .backend ≡ true → z .backendTold ≡ false → isOpen (posts k (deed ∷ []) b .state) ≡ true
+          → (reqEvent (pageOf left k) ≡ (length (posts k (deed ∷ []) b .taken) + 1) % modulus) × (length (posts k (deed ∷ []) b .taken) ≡ length (w .put))
+      backend-armed x u =
+          by-cond
+          (λ (c : Book). isOpen (c .state) ≡ true → (reqEvent (pageOf left k) ≡ (length (c .taken) + 1) % modulus) × (length (c .taken) ≡ length (w .put)))
+          (eqb k (p .0)) (entry deed b) b
+          (λ e o.
+          let n = length-answerTo (t .0) (s .0) (said (p .0) left y b) (b .taken) in
+          (req-own (eqb-true k (p .0) e) ∙ a .backend x u o .0 ∙ ap (λ (i : ℕ). (i + 1) % modulus) (sym n), n ∙ a .backend x u o .1))
+          (λ e o. (ap reqEvent (left-other (eqb-false k (p .0) e)) ∙ a .backend x u o .0, a .backend x u o .1))
+
+    complete-armed : (left : List ℕ) (p : PortId) (t : TagId) (s : Serial) (x : Completed) → CompleteFacts v rings left p t s x → CompleteLeft rings left x
+        → CompleteTold v rings p x
+        → Armed (pageOf left k) (length (w .put)) (length (w .collected)) (posts k (completeDeeds left (p .0) (t .0) (s .0) x) b) (afterCompletion k z x)
+    complete-armed left p t s (Completed.Refused n) f e y = armed-same (pageOf left k) (same-rings left e)
+    complete-armed left p t s (Completed.Done q r y) f e o = record {
+      guest = rw (o .0) (guest-armed left (deed left p t s r f) y (o .1) (opened left p t s r f) (left-other left p t s r f));
+      backend = backend-armed left p t s r f;
+    }
+
+  open-armed : (p : PortId) (sheet : List ℕ) (e : Reply) → k ≢ p .0
+      → Armed (w .page) (length (w .put)) (length (w .collected)) (posts k (openDeeds (p .0) sheet e) b) z
+  open-armed p sheet (Reply.Refused n) ne = a
+  open-armed p sheet Reply.Done ne = rw (ne-eqb k (p .0) ne) a
+
+  close-armed : (p : PortId) (e : Reply) → Armed (w .page) (length (w .put)) (length (w .collected)) (posts k (closeDeeds (p .0) e) b) z
+  close-armed p (Reply.Refused n) = a
+  close-armed p Reply.Done =
+      by-cond (λ (c : Book). Armed (w .page) (length (w .put)) (length (w .collected)) c z) (eqb k (p .0)) (entry (closing (p .0)) b) b
+      (λ _. record { guest = a .guest; backend = λ x y o. clash o refl }) (λ _. a)
+
+  -- ---- a step
+
+  armed-step : (s : Step) → Lends k s → ArmedIn k (step k w s) (waitsAfter k w s z)
+  unfolding step book
+  armed-step (putting r) y = put-armed r
+  armed-step collecting y = collect-armed
+  armed-step (turning others grants words) y =
+      let x = eventOn (w .backend) (turnOn k (w .page) others grants words) in
+      let u = viewAt (w .events) in
+      let t = told-step (w .backend) (w .events) (turnOn k (w .page) others grants words) (lent-bytes k small w h others (y .0) (y .1)) (h .told) in
+      turn-armed others (y .0) (y .1) (x .effect .rings) (x .effect .answer) (facts-due u x (t .asDue .0)) (left-due u x (t .asDue .0)) (tells-due u x (t .asDue .0))
+  armed-step (completing others p t s r) y =
+      let x = eventOn (w .backend) (completeOn k (w .page) others p t s r) in
+      let u = viewAt (w .events) in
+      let n = told-step (w .backend) (w .events) (completeOn k (w .page) others p t s r) (lent-bytes k small w h others (y .0) (y .1)) (h .told) in
+      complete-armed others (y .0) (y .1) (x .effect .rings) p t s (x .effect .answer) (facts-due u x (n .asDue .0)) (left-due u x (n .asDue .0)) (tells-due u x (n .asDue .0))
+  armed-step (openingOther p sheet) y = open-armed p sheet (eventOn (w .backend) (Open p sheet) .effect) y
+  armed-step (closingAny p) y = close-armed p (eventOn (w .backend) (Close p) .effect)
+
+  rests : Rests k w z
+  rests = record {
+    guest = λ x y. a .guest x y .1;
+    backend = λ x y o. a .backend x y (rw (h .told .tied .ports k .state) at o) .1;
+  }
+
+-- ---- every list of steps
+
+rests-after : (k : ℕ) → k < ports → (w : System) → Kept k w → (z : Waits) → ArmedIn k w z → (steps : List Step) → All (Lends k) steps → RestsAfter k w z steps
+rests-after k l w h z a [] y = rests k l w h z a
+rests-after k l w h z a (s ∷ steps) y =
+    rests-after k l (step k w s) (kept-step k l w h s (y .0)) (waitsAfter k w s z) (armed-step k l w h z a s (y .0)) steps (y .1)
+
+pub wakeups : WakeupTheorem
+wakeups k sheet g before bytes others steps y =
+    rests-after k (g .small) (atOpening k before sheet) (kept-first k sheet g _ _ (before-all k before bytes others)) nobodyWaits
+    (record { guest = λ x _. clash x refl; backend = λ x _ _. clash x refl }) steps y

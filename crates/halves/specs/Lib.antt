@@ -1,0 +1,3 @@
+pub mod System
+pub mod Claim
+pub mod Wakeups

@@ -1,0 +1,51 @@
+//! Copies between a live page and the private one.
+
+use crate::ffi::{Mapping, WORD_BYTES};
+use crate::layout::{read_u32, write_u32, RING_BYTES};
+
+impl Mapping {
+    /// The number in the word at a multiple of four.
+    pub(super) fn number(&self, at: usize) -> u32 {
+        u32::from_le(self.load(at))
+    }
+
+    /// Copies so many bytes in, from a multiple of four on; each word is loaded once.
+    pub(super) fn copy_in(&self, at: usize, bytes: usize, private: &mut [u8; RING_BYTES]) {
+        for at in words_of(at, bytes) {
+            write_u32(private, at, self.number(at));
+        }
+    }
+
+    /// Copies so many bytes out, from a multiple of four on.
+    pub(super) fn copy_out(&self, at: usize, bytes: usize, private: &[u8; RING_BYTES]) {
+        for at in words_of(at, bytes) {
+            self.store(at, read_u32(private, at).to_le());
+        }
+    }
+}
+
+/// Where the words of so many bytes begin.
+fn words_of(at: usize, bytes: usize) -> impl Iterator<Item = usize> {
+    (at..at + bytes).step_by(WORD_BYTES)
+}
+
+/// Whether an index lies in (old, new], around the wrap too.
+pub(super) fn lies_within(index: u32, old: u32, new: u32) -> bool {
+    new.wrapping_sub(index) < new.wrapping_sub(old)
+}
+
+#[cfg(test)]
+mod tests {
+    use super::lies_within;
+
+    #[test]
+    fn within_old_and_new() {
+        assert!(lies_within(6, 5, 6));
+        assert!(!lies_within(5, 5, 6));
+        assert!(!lies_within(7, 5, 6));
+        assert!(lies_within(6, 5, 9) && lies_within(9, 5, 9));
+        assert!(!lies_within(5, 5, 9) && !lies_within(10, 5, 9));
+        assert!(lies_within(0, u32::MAX, 0) && !lies_within(u32::MAX, u32::MAX, 0));
+        assert!(!lies_within(5, 5, 5));
+    }
+}
