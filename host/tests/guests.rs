@@ -57,57 +57,52 @@ fn eleven(operation: u8) -> Ask {
     ask
 }
 
-/// Requests, and the bytes of the slot that each has to become.
-fn slots() -> Vec<(RequestWords, &'static str)> {
+/// The bytes of the id that an [`Ask`] has.
+const ID: &str = "88 77 66 55 44 33 22 11";
+
+/// Requests, and what is in the slot that each has to become: the first two bytes, the id, and all that
+/// follows it.
+fn slots() -> Vec<(RequestWords, [&'static str; 3])> {
     let mut write = Ask::of(1, 3, u64::MAX, 0, 7);
     write.segments = vec![(u32::MAX, 0, 7), (0, 7, 7), (0x0403_0201, 2, 4)];
     let mut barrier = Ask::of(2, 0, 0x0102_0304_0506_0708, 0, 0);
     barrier.id = 0xF1E2_D3C4_B5A6_9788;
+    let flush = Ask::of(3, 0, 0x0102_0304_0506_0708, 0, 0);
+    let discard = Ask::discard(0xFF, 0x0102_0304_0506_0708, 1);
     let mut any_flag = Ask::discard(0, 7, u64::MAX).words();
     any_flag[request::FLAG] = 0xFFFF_FFFF_FFFF_FFFE;
+    let read = "D0 07 00*6 05 00 00 00 00 07 00 00 00*80";
+    let written =
+        "FF*8 FF FF FF FF 00 07 00 00 00 00 00 00 07 07 00 00 01 02 03 04 02 04 00 00 00*64";
+    let segments = "00 00 00 00 01 00 00 00
+         00 01 00 00 00 07 00 00 01 01 00 00 01 07 00 00 02 01 00 00 02 07 00 00
+         03 01 00 00 03 07 00 00 04 01 00 00 04 07 00 00 05 01 00 00 05 07 00 00
+         06 01 00 00 06 07 00 00 07 01 00 00 07 07 00 00 08 01 00 00 00 07 00 00
+         09 01 00 00 01 07 00 00 0A 01 00 00 02 07 00 00";
+    let discarded = "08 07 06 05 04 03 02 01 01 00*7 00*80";
     vec![
+        (Ask::usual_read().words(), ["00 01", ID, read]),
+        (write.words(), ["01 03", ID, written]),
+        (eleven(2).words(), ["02 0B", ID, segments]),
         (
-            Ask::usual_read().words(),
-            "00 01 00*6 88 77 66 55 44 33 22 11 D0 07 00*6 05 00 00 00 00 07 00 00 00*80",
+            barrier.words(),
+            ["02 00", "88 97 A6 B5 C4 D3 E2 F1", "00*96"],
         ),
-        (
-            write.words(),
-            "01 03 00*6 88 77 66 55 44 33 22 11 FF*8 FF FF FF FF 00 07 00 00 00 00 00 00 07 07 00 00
-             01 02 03 04 02 04 00 00 00*64",
-        ),
-        (
-            eleven(2).words(),
-            "02 0B 00*6 88 77 66 55 44 33 22 11 00 00 00 00 01 00 00 00
-             00 01 00 00 00 07 00 00 01 01 00 00 01 07 00 00 02 01 00 00 02 07 00 00
-             03 01 00 00 03 07 00 00 04 01 00 00 04 07 00 00 05 01 00 00 05 07 00 00
-             06 01 00 00 06 07 00 00 07 01 00 00 07 07 00 00 08 01 00 00 00 07 00 00
-             09 01 00 00 01 07 00 00 0A 01 00 00 02 07 00 00",
-        ),
-        (barrier.words(), "02 00 00*6 88 97 A6 B5 C4 D3 E2 F1 00*96"),
-        (
-            Ask::of(3, 0, 0x0102_0304_0506_0708, 0, 0).words(),
-            "03 00 00*6 88 77 66 55 44 33 22 11 00*96",
-        ),
-        (
-            Ask::discard(0xFF, 0x0102_0304_0506_0708, 1).words(),
-            "05 01 00*6 88 77 66 55 44 33 22 11 08 07 06 05 04 03 02 01 01 00*7 00*80",
-        ),
-        (
-            any_flag,
-            "05 00 00*6 88 77 66 55 44 33 22 11 07 00*7 FF*8 00*80",
-        ),
+        (flush.words(), ["03 00", ID, "00*96"]),
+        (discard.words(), ["05 01", ID, discarded]),
+        (any_flag, ["05 00", ID, "07 00*7 FF*8 00*80"]),
     ]
 }
 
 #[test]
 fn slots_byte_by_byte() {
-    for (words, slot) in slots() {
+    for (words, [begin, id, rest]) in slots() {
+        let slot = format!("{begin} 00*6 {id} {rest}");
         for (req_event, notify) in [("01 00 00 00", true), ("00*4", false), ("02 00*3", false)] {
             let (mut guests, mut page) = (Guests::new(), page_of(0xEE));
             page[REQ_EVENT..REQ_EVENT + 4].copy_from_slice(&bytes(req_event));
             assert_eq!(guests.put(&mut page, &words), Ok(notify));
-            let rest = "00*4 EE*52";
-            let due = format!("01 00*3 {req_event} {rest} {slot} EE*3920");
+            let due = format!("01 00*3 {req_event} 00*4 EE*52 {slot} EE*3920");
             assert_eq!(page, bytes(&due));
         }
     }
@@ -127,7 +122,7 @@ fn a_response_byte_by_byte() {
     for (rest, status) in rests {
         let (mut guests, mut page) = (Guests::new(), page_of(0xEE));
         guests.put(&mut page, &Ask::usual_read().words()).unwrap();
-        respond(&mut page, 0, &format!("88 77 66 55 44 33 22 11 00 {rest}"));
+        respond(&mut page, 0, &format!("{ID} 00 {rest}"));
         let before = page.clone();
         let response = Collected {
             id: 0x1122_3344_5566_7788,

@@ -74,11 +74,11 @@ without i l = let last = length l - 1 in take last (set l i (getD l last noPair)
 
 -- ---- a request that may be put
 
--- one of the operations that a guest puts; a backend may come to know more (rule 16.6)
+-- none of the operations that a guest puts; a backend may come to know more of them (rule 16.6)
 unfoldable pub isForeign : Request → Bool
 isForeign r = not (isA read r || isA write r || isA barrier r || isA flush r || isA discard r)
 
--- the frame has its field's 32 bits (rule 16.7)
+-- the frame fits its field of 32 bits (rule 16.7)
 unfoldable pub isNarrow : Segment → Bool
 isNarrow s = ltb (s .frame) (2 ^ 32)
 
@@ -170,7 +170,7 @@ notCollected g page n = record { guest = g; page = page; answer = Collected.Refu
 unfoldable pub ahead : Guest → List ℕ → ℕ
 ahead g page = distance (rspProd page) (g .collected)
 
--- id and operation of the response in the slot of our own index, and its status (rule 16.13)
+-- id and operation of the response in the slot of our own index, and its status (rules 16.13 and 16.14)
 abbrev pub nextPair : Guest → List ℕ → Pair
 nextPair g page = responsePair page (slotAt guestRing (g .collected))
 
