@@ -38,7 +38,7 @@ extern "C" {
  * and the last, and makes no other call when one of them is not the header's: the header and the archive are then not
  * of one release, or not built for the same memory.
  */
-#define KH_VERSION 500 /* 0.5.0 */
+#define KH_VERSION 600 /* 0.6.0 */
 uint32_t kh_version(void);
 uint32_t kh_memory_words(void);
 uint32_t kh_guest_words(void);
@@ -167,7 +167,7 @@ enum kh_reason {
     KH_WRONG_SEGMENT = 26,     /* a segment without first <= last <= 7 */
     KH_NOT_GRANTED = 27,       /* a frame not granted as needed: a read needs KH_GRANT_READ_WRITE, others either */
     KH_PAST_END = 28,          /* start + count above the node sectors */
-    KH_UNALIGNED = 29          /* start or count no multiple of sector-size / 512 */
+    KH_UNALIGNED = 29          /* start, count, or where a segment begins or ends, no multiple of sector-size / 512 */
 };
 
 /* A response's status, as on the ring. Answers of kh_turn and kh_complete hold its magnitude, those of kh_guest_collect its

@@ -330,7 +330,7 @@ fn without_a_flaw() {
 fn flawed_guests_break_the_claim() {
     let flaws = [
         (GuestFlaw::SkipsSlot, "taken "),
-        (GuestFlaw::RaisesByTwo, "an overrun"),
+        (GuestFlaw::RaisesByTwo, "taken "),
         (GuestFlaw::RaisesByTwoAtTheEnd, "an overrun"),
         (GuestFlaw::WrongId, "taken "),
         (GuestFlaw::WrongFrame, "taken "),
@@ -354,7 +354,7 @@ fn flawed_backends_break_the_claim() {
         (BackendFlaw::Swaps, "answered "),
         (BackendFlaw::RaisesByTwo, "collecting gave 3"),
         (BackendFlaw::RaisesNothing, "collected [0, 0, 0, 0]"),
-        (BackendFlaw::Twice, "taken "),
+        (BackendFlaw::Twice, "collecting gave 3"),
         (BackendFlaw::WrongId, "answered "),
         (BackendFlaw::WrongStatus, "answered "),
         (BackendFlaw::WrongStart, "planned "),

@@ -2,7 +2,11 @@
 //! in both layouts.
 
 use kernelharp::layout::Abi;
+use second::Status;
 use tests::{full_sheet, sheet, usual_sheet, usual_sheet_of, with_protocol, Ask, Bench};
+
+/// The sector sizes, and how many sectors of 512 bytes each is.
+const SIZES: [(&str, u8); 4] = [("512", 1), ("1024", 2), ("2048", 4), ("4096", 8)];
 
 /// A number that is the same for both layouts.
 fn either(number: impl Fn(Abi) -> u32) -> u32 {
@@ -189,8 +193,8 @@ fn reason_28() {
 
 #[test]
 fn reason_29() {
-    for (size, unit) in [("512", 1), ("1024", 2), ("2048", 4), ("4096", 8)] {
-        let disk = full_sheet("w", size, "2008");
+    for (size, unit) in SIZES {
+        let (disk, unit) = (full_sheet("w", size, "2008"), u64::from(unit));
         for start in 0..9 {
             let due = if start % unit == 0 { 0 } else { 29 };
             assert_eq!(on(&disk, &Ask::of(1, 1, start, 0, 7)), due);
@@ -200,13 +204,131 @@ fn reason_29() {
             let due = if count % unit == 0 { 0 } else { 29 };
             let last = count as u8 - 1;
             assert_eq!(on(&disk, &Ask::of(2, 1, 8, 0, last)), due);
-            assert_eq!(on(&disk, &Ask::discard(0, 8, count)), due);
+            // No segments, though its flag could be n and its bytes one that is off.
+            for flag in [0, 1, 11] {
+                assert_eq!(on(&disk, &Ask::discard(flag, 8, count)), due);
+            }
+        }
+        // A flush and an empty barrier have neither start nor segments.
+        assert_eq!(on(&disk, &Ask::of(3, 0, 1, 0, 0)), 0);
+        assert_eq!(on(&disk, &Ask::of(2, 0, 1, 0, 0)), 0);
+    }
+    // Segments are looked at one by one: parts of a sector do not make up for each other.
+    let disk = full_sheet("w", "4096", "2008");
+    assert_eq!(on(&disk, &Ask::of(0, 8, 0, 0, 0)), 29);
+    assert_eq!(on(&disk, &Ask::of(0, 8, 0, 0, 7)), 0);
+}
+
+/// Requests to one disk of this sector size, one after another, with the number due for each, 0 when it
+/// starts. What starts is completed.
+fn all_on(size: &str, asks: impl IntoIterator<Item = (Ask, u32)>) {
+    let sheet = full_sheet("w", size, "2008");
+    let mut benches = Abi::ALL.map(|abi| Bench::open(&with_protocol(&sheet, abi)));
+    for (ask, due) in asks {
+        for bench in &mut benches {
+            let came = match bench.serve(&ask) {
+                Ok(plan) => {
+                    let done = bench.complete(plan.port, plan.tag, plan.serial, plan.count as i32);
+                    assert_eq!(done.map(|done| done.status), Ok(Status::Okay));
+                    0
+                }
+                Err(reason) => reason as u32,
+            };
+            let (n, segments) = (ask.count_or_flag, &ask.segments);
+            assert_eq!(came, due, "{size}: {n} of {segments:?}");
         }
     }
-    // Only the total counts, not each segment.
-    let disk = full_sheet("w", "4096", "2008");
-    assert_eq!(on(&disk, &Ask::of(0, 8, 0, 0, 0)), 0);
-    assert_eq!(on(&disk, &Ask::of(0, 7, 0, 0, 0)), 29);
-    assert_eq!(on(&disk, &Ask::of(3, 0, 1, 0, 0)), 0);
-    assert_eq!(on(&disk, &Ask::of(2, 0, 1, 0, 0)), 0);
+}
+
+#[test]
+fn reason_29_of_any_one_or_two_segments() {
+    let within = (0..8).flat_map(|first| (first..8).map(move |last| (5, first, last)));
+    let mut lists = Vec::new();
+    for one in within.clone() {
+        lists.push(vec![one]);
+        lists.extend(within.clone().map(|other| vec![one, other]));
+    }
+    assert_eq!(lists.len(), 36 + 36 * 36);
+    for (size, unit) in SIZES {
+        let off = |&(_, first, last): &_| first % unit != 0 || (last + 1) % unit != 0;
+        for operation in 0..3 {
+            let asks = lists.iter().map(|segments| {
+                let mut ask = Ask::of(operation, segments.len() as u8, 0, 0, 0);
+                ask.segments.clone_from(segments);
+                let due = if segments.iter().any(off) { 29 } else { 0 };
+                (ask, due)
+            });
+            all_on(size, asks);
+        }
+    }
+}
+
+#[test]
+fn reason_26_or_29_of_any_two_bytes() {
+    for (size, unit) in SIZES {
+        for operation in 0..3 {
+            let bytes = (0..=255).flat_map(|first| (0..=255).map(move |last| (first, last)));
+            let asks = bytes.map(|(first, last)| {
+                let due = match (first, last) {
+                    _ if first > last || last > 7 => 26,
+                    _ if first % unit != 0 || (last + 1) % unit != 0 => 29,
+                    _ => 0,
+                };
+                (Ask::of(operation, 1, 0, first, last), due)
+            });
+            all_on(size, asks);
+        }
+    }
+}
+
+/// The halves of a sector at any two of eleven places, or one segment that is moved by a half; the first
+/// n places count. The total is fine where both halves count, or the one does.
+#[test]
+fn reason_29_at_any_place() {
+    for (size, unit) in &SIZES[1..] {
+        let half = unit / 2;
+        for n in 1..=11 {
+            let places = (0..11).flat_map(|one| (0..11).map(move |other| (one, other)));
+            // A frame has no room for a large sector that is moved.
+            let places = places.filter(|(one, other)| one != other || unit + half <= 8);
+            let asks = places.map(|(one, other)| {
+                let mut ask = Ask::of(1, 11, 0, 0, 7);
+                ask.count_or_flag = n;
+                if one == other {
+                    ask.segments[one] = (5, half, unit + half - 1);
+                } else {
+                    ask.segments[one] = (5, 0, half - 1);
+                    ask.segments[other] = (5, half, unit - 1);
+                }
+                let counts = one.min(other) < usize::from(n);
+                (ask, if counts { 29 } else { 0 })
+            });
+            all_on(size, asks);
+        }
+    }
+}
+
+/// Any of the faults 26, 27 and 28, beside the halves of a sector, in any order of the segments.
+#[test]
+fn reason_29_comes_last() {
+    for (size, unit) in &SIZES[1..] {
+        let asks = (0..3 * 8 * 4u32).map(|number| {
+            let (operation, faults, turns) = (number / 32, number / 4 % 8, number % 4);
+            let mut ask = Ask::of(operation as u8, 4, 0, 0, 7);
+            ask.segments[0].2 = unit / 2 - 1;
+            ask.segments[1] = (5, unit / 2, unit - 1);
+            if faults & 1 != 0 {
+                ask.segments[2].2 = 8;
+            }
+            if faults & 2 != 0 {
+                ask.segments[3].0 = 1024;
+            }
+            if faults & 4 != 0 {
+                ask.start = 2000;
+            }
+            ask.segments.rotate_left(turns as usize);
+            (ask, 26 + faults.trailing_zeros().min(3))
+        });
+        all_on(size, asks);
+    }
 }

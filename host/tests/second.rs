@@ -11,7 +11,7 @@ const SEED: u64 = 0x6B65_726E_656C;
 
 #[test]
 fn random_calls_keep_demand_3() {
-    let (seed, calls) = (SEED, 200_000);
+    let (seed, calls) = (SEED, 1_000_000);
     println!("seed {seed}, {calls} calls");
     let begun = std::time::Instant::now();
     let report = run(&mut [&mut Backend::new()], seed, calls).unwrap_or_else(|at| panic!("{at}"));

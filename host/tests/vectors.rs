@@ -1,6 +1,6 @@
 //! The vectors of tests/vectors, each line of them, run through the second program and the archive:
-//! the worked cases of section 9, node sheets, requests, and records byte by byte. What is due in
-//! either layout is run in both.
+//! the worked cases of section 9, node sheets, requests, also by their segments, and records byte by
+//! byte. What is due in either layout is run in both.
 
 use kernelharp::layout::{read_u64, Abi, HEADER_BYTES, PORT_GRANTS};
 use second::{
@@ -11,6 +11,7 @@ use tests::{bytes, full_sheet, sheet, usual_sheet_of, with_protocol, Ask, Bench}
 const WORKED: &str = include_str!("../../tests/vectors/worked.txt");
 const SHEETS: &str = include_str!("../../tests/vectors/sheets.txt");
 const REQUESTS: &str = include_str!("../../tests/vectors/requests.txt");
+const SEGMENTS: &str = include_str!("../../tests/vectors/segments.txt");
 const RECORDS: &str = include_str!("../../tests/vectors/records.txt");
 
 /// What is given and what is due in each line of a file.
@@ -256,7 +257,7 @@ fn finish(bench: &mut Bench, served: &Result<Plan, Reason>) {
     }
 }
 
-/// The sheet of a line of requests.txt.
+/// The sheet of a line of requests.txt or segments.txt.
 fn sheet_of(words: &[&str]) -> Vec<u8> {
     let &[writable, barrier, flush, discard, secure, size, sectors] = words else {
         panic!("seven words: {words:?}")
@@ -266,43 +267,105 @@ fn sheet_of(words: &[&str]) -> Vec<u8> {
     sheet(&[&[(1, mode)], &features[..], &[(6, size), (7, sectors)]].concat())
 }
 
-/// The request of a line of requests.txt, and the grant byte of its frame.
-fn ask_of(words: &[&str]) -> (Ask, usize, u8) {
-    let &[operation, byte_1, start, frame, first, last, grant, count] = words else {
-        panic!("eight words: {words:?}")
+/// A segment of a line, and the grant byte of its frame.
+struct Place {
+    segment: (u32, u8, u8),
+    grant: u8,
+}
+
+fn place_of(words: &[&str]) -> Place {
+    let &[frame, first, last, grant] = words else {
+        panic!("four words: {words:?}")
+    };
+    Place {
+        segment: (number(frame), number(first), number(last)),
+        grant: number(grant),
+    }
+}
+
+/// What a line of requests.txt or segments.txt gives.
+struct Given {
+    sheet: Vec<u8>,
+    ask: Ask,
+    places: Vec<Place>,
+}
+
+/// From the ten words that both files begin with, a discard's sectors, and the segments.
+fn given_by(head: &[&str], count: &str, places: Vec<Place>) -> Given {
+    let (port, request) = head.split_at(7);
+    let &[operation, byte_1, start] = request else {
+        panic!("ten words: {head:?}")
     };
     let ask = match operation {
         "5" => Ask::discard(number(byte_1), number(start), number(count)),
         _ => {
             let mut ask = Ask::of(number(operation), number(byte_1), number(start), 0, 0);
-            ask.segments
-                .fill((number(frame), number(first), number(last)));
+            ask.segments = places.iter().map(|place| place.segment).collect();
             ask
         }
     };
-    (ask, number(frame), number(grant))
+    Given {
+        sheet: sheet_of(port),
+        ask,
+        places,
+    }
+}
+
+fn words(text: &str) -> Vec<&str> {
+    text.split(' ').collect()
+}
+
+/// A line of requests.txt: one segment for all places, and the count last.
+fn request_of(line: &str) -> Given {
+    let words = words(line);
+    let (head, rest) = words.split_at(10);
+    let (count, place) = rest.split_last().expect("a count");
+    given_by(head, count, (0..11).map(|_| place_of(place)).collect())
+}
+
+/// A line of segments.txt: the count, then each segment behind a bar.
+fn segments_of(line: &str) -> Given {
+    let mut parts = line.split(" | ").map(words);
+    let first = parts.next().expect("the numbers before the segments");
+    let (count, head) = first.split_last().expect("a count");
+    given_by(head, count, parts.map(|part| place_of(&part)).collect())
+}
+
+/// What comes of it as the first request of a port, with the id read off the response.
+fn serve(given: &Given, abi: Abi) -> String {
+    let mut bench = Bench::open(&with_protocol(&given.sheet, abi));
+    bench.grants.fill(0);
+    for place in &given.places {
+        let frame = place.segment.0 as usize;
+        if frame < PORT_GRANTS {
+            bench.grant(0, frame, place.grant);
+        }
+    }
+    let served = bench.serve(&given.ask);
+    finish(&mut bench, &served);
+    let id = read_u64(bench.slot(0, 0), 0);
+    format!("{id} {}", judgement(&served))
+}
+
+/// Serves each line of a file in both layouts; the id of its request is its place in the file.
+fn serve_lines(file: &'static str, read: fn(&str) -> Given) {
+    for (place, (line, due)) in (1..).zip(lines(file)) {
+        let mut given = read(line);
+        given.ask.id = place;
+        for abi in Abi::ALL {
+            assert_eq!(serve(&given, abi), due, "{line}, {abi:?}");
+        }
+    }
 }
 
 #[test]
 fn request_vectors() {
-    for (place, (given, due)) in (1..).zip(lines(REQUESTS)) {
-        let words: Vec<&str> = given.split(' ').collect();
-        let (port, request) = words.split_at(7);
-        let (mut ask, frame, grant) = ask_of(request);
-        ask.id = place;
-        for abi in Abi::ALL {
-            let mut bench = Bench::open(&with_protocol(&sheet_of(port), abi));
-            bench.grants.fill(0);
-            if frame < PORT_GRANTS {
-                bench.grant(0, frame, grant);
-            }
-            let served = bench.serve(&ask);
-            finish(&mut bench, &served);
-            let id = read_u64(bench.slot(0, 0), 0);
-            let came = format!("{id} {}", judgement(&served));
-            assert_eq!(came, due, "{given}, {abi:?}");
-        }
-    }
+    serve_lines(REQUESTS, request_of);
+}
+
+#[test]
+fn segment_vectors() {
+    serve_lines(SEGMENTS, segments_of);
 }
 
 #[test]

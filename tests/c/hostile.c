@@ -5,6 +5,7 @@
  * No expression below draws twice where C leaves the order open, so that a seed gives one list of calls.
  */
 #include "any.h"
+#include "port_words.h"
 #include "test.h"
 
 enum { CALLS = 150000, LAST_NUMBER = 15 };
@@ -77,6 +78,41 @@ static void end_counts(void) {
         print_counts(); /* the same in both places */
 }
 
+/* ---- disks of each sector size: what started of requests with segments, and what was refused with 29 */
+
+enum { SIZES = 4 };
+
+static unsigned long started_on[SIZES], refused_on[SIZES];
+
+static void begin_sizes(void) {
+    memset(started_on, 0, sizeof started_on);
+    memset(refused_on, 0, sizeof refused_on);
+}
+
+/* What started lies on boundaries of its disk's sectors. */
+static void check_size(const host *h) {
+    kh_turned turned = kh_read_turn(words(h, TURNED));
+    uint64_t size = words_of_port(memory_of(h), turned.port)[SECTOR_SIZE] % SIZES;
+    uint32_t unit = 1U << size;
+    started_on[size] += turned.plan.extent_count > 0;
+    refused_on[size] += turned.reason == KH_UNALIGNED;
+    for (uint32_t i = 0; i < turned.plan.extent_count; i++) {
+        CHECK_EQ(turned.plan.extents[i].first % unit, 0);
+        CHECK_EQ(turned.plan.extents[i].length % unit, 0);
+        CHECK_EQ(turned.plan.extents[i].sector % unit, 0);
+    }
+}
+
+static void end_sizes(void) {
+    for (unsigned size = 0; size < SIZES; size++) {
+        CHECK(started_on[size] > 0);
+        CHECK_EQ(refused_on[size] > 0, size > 0);
+        if (placement != BEFORE_GUARD || running.failures > 0)
+            printf("     %u-byte sectors: %lu started with segments, %lu refused with 29\n", 512U << size,
+                   started_on[size], refused_on[size]);
+    }
+}
+
 /* ---- arguments */
 
 static uint32_t any_port(void) {
@@ -92,8 +128,8 @@ static int32_t any_result(const started *request) {
 
 /* A sheet that ends with digits of any length, as its sectors. */
 static sheet any_sectors(void) {
-    char nodes[64] = "1:w 4:1 6:512 7:";
-    size_t end = strlen(nodes);
+    char nodes[64] = "";
+    int end = snprintf(nodes, sizeof nodes, "1:w 4:1 6:%u 7:", 512U << below(SIZES));
     for (uint32_t digits = 1 + below(40); digits > 0; digits--)
         nodes[end++] = (char)('0' + below(10));
     return sheet_of(nodes);
@@ -106,11 +142,13 @@ static sheet any_sheet(void) {
                                        "1:r 2:1 3:1 4:1 6:512 7:2008",
                                        "1:w 2:1 3:1 4:1 5:0 6:4096 7:2008 8:x86_64-abi 9:0",
                                        "1:w 4:1 5:1 6:1024 7:18446744073709551615",
+                                       "1:w 2:1 6:2048 7:2008",
                                        USUAL_NODES " 8:x86_32-abi",
                                        ALL_FEATURES " 8:x86_32-abi",
                                        "1:r 2:1 3:1 4:1 6:512 7:2008 8:x86_32-abi",
                                        "1:w 2:1 3:1 4:1 5:0 6:4096 7:2008 8:x86_32-abi 9:0",
                                        "1:w 4:1 5:1 6:1024 7:18446744073709551615 8:x86_32-abi",
+                                       "1:w 2:1 6:2048 7:2008 8:x86_32-abi",
                                        "1:w 6:512",
                                        "1:w 6:513 7:1"};
     sheet s = one_in(4) ? any_sectors() : sheet_of(good[below(COUNT_OF(good))]);
@@ -124,10 +162,23 @@ static sheet any_sheet(void) {
     return s;
 }
 
+/* Parts of frames that begin and end on multiples of 1, 2 or 4 sectors. */
+static void take_parts(request *r) {
+    uint32_t unit = 1U << below(3);
+    for (int i = 0; i < KH_EXTENTS; i++) {
+        uint32_t first = below(KH_FRAME_SECTORS / unit);
+        uint32_t more = below(KH_FRAME_SECTORS / unit - first);
+        r->segments[i].first = (uint8_t)(first * unit);
+        r->segments[i].last = (uint8_t)((first + more + 1) * unit - 1);
+    }
+}
+
 static request any_request(void) {
     static const uint8_t operations[] = {0, 1, 2, 3, 5, 5};
     request r = transfer(operations[below(6)], 1, 0);
     r.start = below(256) * 8;
+    if (one_in(4))
+        take_parts(&r);
     if (!one_in(4))
         r.n = (uint8_t)below(13);
     else if (r.operation == KH_FLUSH)
@@ -208,6 +259,8 @@ static void call_turn(host *h) {
     const uint64_t *answer = words(h, TURNED);
     uint32_t number = TURN(h);
     count(h, CALL_TURN, number);
+    if (number == KH_OK)
+        check_size(h);
     if (number == KH_OK && answer[KH_TURN_KIND] == KH_ANSWERED)
         count_response(h, answer[KH_TURN_PORT]);
 }
@@ -241,6 +294,7 @@ static void call_any(host *h) {
 
 static void any_calls_from_the_empty_backend(host *h) {
     begin_counts();
+    begin_sizes();
     for (int i = 0; i < CALLS; i++) {
         bool wrong;
         guest_writes(h, below(KH_PORTS));
@@ -251,6 +305,7 @@ static void any_calls_from_the_empty_backend(host *h) {
             lend_rightly(h);
     }
     end_counts();
+    end_sizes();
 }
 
 /* ---- calls on memory of any content, which is some backend too; no books can be kept of it */

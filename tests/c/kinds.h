@@ -48,7 +48,7 @@ typedef struct {
 static const kind kinds[] = {
     {BLKIF_OP_READ, 1, 2000, FRAME, 0, 7, 0, {0, 0, 0, 0}},
     {BLKIF_OP_READ, 11, 8, FRAME, 0, 7, 0, {0, 0, 0, 0}},
-    {BLKIF_OP_READ, 8, 16, FRAME, 3, 5, 0, {0, 0, 0, 0}},
+    {BLKIF_OP_READ, 8, 16, FRAME, 3, 5, 0, {0, 0, 0, 29}},
     {BLKIF_OP_WRITE, 2, 24, FRAME, 0, 7, 0, {0, 24, 0, 0}},
     {BLKIF_OP_WRITE, 11, 32, FRAME_TO_READ, 0, 7, 0, {0, 24, 0, 0}},
     {BLKIF_OP_WRITE_BARRIER, 3, 40, FRAME, 0, 7, 0, {0, 24, 22, 0}},
@@ -72,6 +72,9 @@ static const kind kinds[] = {
     {BLKIF_OP_WRITE, 1, UINT64_MAX, FRAME, 7, 7, 0, {28, 24, 28, 28}},
     {BLKIF_OP_READ, 1, 4, FRAME, 0, 7, 0, {0, 0, 0, 29}},
     {BLKIF_OP_READ, 1, 8, FRAME, 0, 4, 0, {0, 0, 0, 29}},
+    {BLKIF_OP_READ, 2, 8, FRAME, 0, 3, 0, {0, 0, 0, 29}},
+    {BLKIF_OP_WRITE, 4, 8, FRAME, 4, 7, 0, {0, 24, 0, 29}},
+    {BLKIF_OP_WRITE_BARRIER, 8, 8, FRAME_TO_READ, 7, 7, 0, {0, 24, 22, 29}},
 };
 
 enum { KINDS = sizeof kinds / sizeof kinds[0] };

@@ -192,14 +192,22 @@ static void reason_28_at_2_to_the_64(host *h) {
     CHECK_EQ(JUDGE(h, discard(0, 1, UINT64_MAX)), 28);
 }
 
+/* ---- 29, on disks of every sector size */
+
+static const struct {
+    const char *nodes;
+    uint8_t unit; /* what starts, counts and boundaries are multiples of */
+    uint32_t off; /* what is due where a segment is sectors 1 to 2 of its frame, or any one sector */
+} sizes[] = {{"1:w 2:1 3:1 4:1 5:1 6:512 7:2008", 1, 0},
+             {"1:w 2:1 3:1 4:1 5:1 6:1024 7:2008", 2, 29},
+             {"1:w 2:1 3:1 4:1 5:1 6:2048 7:2008", 4, 29},
+             {"1:w 2:1 3:1 4:1 5:1 6:4096 7:2008", 8, 29}};
+
+static bool is_on_boundaries(uint8_t first, uint8_t last, uint8_t unit) {
+    return first % unit == 0 && (last + 1) % unit == 0;
+}
+
 static void reason_29_misaligned(host *h) {
-    static const struct {
-        const char *nodes;
-        uint8_t unit;
-    } sizes[] = {{"1:w 2:1 3:1 4:1 6:512 7:2008", 1},
-                 {"1:w 2:1 3:1 4:1 6:1024 7:2008", 2},
-                 {"1:w 2:1 3:1 4:1 6:2048 7:2008", 4},
-                 {"1:w 2:1 3:1 4:1 6:4096 7:2008", 8}};
     for (size_t i = 0; i < COUNT_OF(sizes); i++) {
         BEGIN(h, sizes[i].nodes);
         for (uint8_t n = 1; n <= 8; n++) {
@@ -213,12 +221,160 @@ static void reason_29_misaligned(host *h) {
     }
 }
 
+/* A read at sector 8 of two segments. */
+static request read_of_two(uint8_t first, uint8_t last, uint8_t next_first, uint8_t next_last) {
+    return with_segment(with_segment(transfer(KH_READ, 2, 8), 0, 5, first, last), 1, 6, next_first, next_last);
+}
+
 static void reason_29_total_count(host *h) {
-    request r = with_segment(transfer(KH_READ, 2, 8), 0, 5, 5, 7);
     BEGIN(h, "1:w 6:4096 7:2008");
-    CHECK_EQ(JUDGE(h, with_segment(r, 1, 6, 0, 4)), 0); /* 3 + 5 sectors */
-    CHECK_EQ(words(h, TURNED)[KH_TURN_COUNT], 8);
-    CHECK_EQ(JUDGE(h, with_segment(r, 1, 6, 0, 3)), 29);
+    CHECK_EQ(JUDGE(h, read_of_two(0, 7, 0, 7)), 0);
+    CHECK_EQ(words(h, TURNED)[KH_TURN_COUNT], 16);
+    CHECK_EQ(JUDGE(h, read_of_two(5, 7, 0, 3)), 29); /* 3 + 4 sectors */
+    CHECK_EQ(JUDGE(h, read_of_two(5, 7, 0, 4)), 29); /* 3 + 5: the total alone is fine */
+}
+
+/* Every segment that passes 26, at every place of eleven whole frames, and as the last of so many. */
+static void reason_29_each_segment(host *h) {
+    for (size_t i = 0; i < COUNT_OF(sizes); i++) {
+        BEGIN(h, sizes[i].nodes);
+        for (unsigned ends = 0; ends < 64; ends++) {
+            uint8_t first = ends / 8, last = ends % 8;
+            uint32_t due = is_on_boundaries(first, last, sizes[i].unit) ? 0 : 29;
+            for (int place = 0; first <= last && place < KH_EXTENTS; place++) {
+                request r = with_segment(transfer(KH_READ, 11, 8), place, 6, first, last);
+                CHECK_EQ(JUDGE(h, r), due);
+                r.n = (uint8_t)(place + 1);
+                CHECK_EQ(JUDGE(h, r), due);
+            }
+        }
+    }
+}
+
+/* Every two of them. */
+static void reason_29_each_two_segments(host *h) {
+    for (size_t i = 0; i < COUNT_OF(sizes); i++) {
+        uint8_t unit = sizes[i].unit;
+        BEGIN(h, sizes[i].nodes);
+        for (unsigned ends = 0; ends < 8 * 8 * 8 * 8; ends++) {
+            uint8_t a = ends / 512, b = ends / 64 % 8, c = ends / 8 % 8, d = ends % 8;
+            uint32_t due = is_on_boundaries(a, b, unit) && is_on_boundaries(c, d, unit) ? 0 : 29;
+            if (a <= b && c <= d)
+                CHECK_EQ(JUDGE(h, read_of_two(a, b, c, d)), due);
+        }
+    }
+}
+
+/* First sectors alone that are off, with a total that is fine. */
+static void reason_29_segment_first(host *h) {
+    for (size_t i = 0; i < COUNT_OF(sizes); i++) {
+        uint8_t unit = sizes[i].unit;
+        BEGIN(h, sizes[i].nodes);
+        for (uint8_t off = 1; off < unit; off++)
+            CHECK_EQ(JUDGE(h, read_of_two(off, 7, unit - off, 7)), 29);
+        CHECK_EQ(JUDGE(h, read_of_two(0, 7, 8 - unit, 7)), 0);
+        CHECK_EQ(words(h, TURNED)[KH_TURN_COUNT], 8 + unit);
+    }
+}
+
+/* Last sectors alone. */
+static void reason_29_segment_last(host *h) {
+    for (size_t i = 0; i < COUNT_OF(sizes); i++) {
+        uint8_t unit = sizes[i].unit;
+        BEGIN(h, sizes[i].nodes);
+        for (uint8_t off = 1; off < unit; off++)
+            CHECK_EQ(JUDGE(h, read_of_two(0, off - 1, 0, unit - off - 1)), 29);
+        CHECK_EQ(JUDGE(h, read_of_two(0, 7, 0, unit - 1)), 0);
+        CHECK_EQ(words(h, TURNED)[KH_TURN_COUNT], 8 + unit);
+    }
+}
+
+/* Halves of frames make whole frames together; a sector of 4,096 bytes they don't. */
+static void reason_29_two_halves(host *h) {
+    for (size_t i = 0; i < COUNT_OF(sizes); i++) {
+        uint32_t due = sizes[i].unit == 8 ? 29 : 0;
+        BEGIN(h, sizes[i].nodes);
+        CHECK_EQ(JUDGE(h, read_of_two(0, 3, 0, 3)), due);
+        CHECK_EQ(JUDGE(h, read_of_two(4, 7, 0, 3)), due);
+        CHECK_EQ(JUDGE(h, read_of_two(0, 3, 4, 7)), due);
+        CHECK_EQ(words(h, TURNED)[KH_TURN_COUNT], due == 0 ? 8 : 0);
+        for (int place = 1; place < KH_EXTENTS; place++) {
+            request r = with_segment(transfer(KH_READ, 11, 8), 0, 5, 0, 3);
+            CHECK_EQ(JUDGE(h, with_segment(r, place, 5, 4, 7)), due);
+        }
+    }
+}
+
+/* As many segments of one sector as make one of the disk's. */
+static void reason_29_one_sector_each(host *h) {
+    for (size_t i = 0; i < COUNT_OF(sizes); i++) {
+        request r = transfer(KH_READ, sizes[i].unit, 8);
+        for (uint8_t sector = 0; sector < 8; sector++)
+            r = with_segment(r, sector, 5, sector, sector);
+        BEGIN(h, sizes[i].nodes);
+        CHECK_EQ(JUDGE(h, r), sizes[i].off);
+        r.n = 8;
+        CHECK_EQ(JUDGE(h, r), sizes[i].off);
+    }
+}
+
+static void reason_29_behind_the_last(host *h) {
+    for (size_t i = 0; i < COUNT_OF(sizes); i++) {
+        BEGIN(h, sizes[i].nodes);
+        for (uint8_t n = 1; n < KH_EXTENTS; n++) {
+            request r = transfer(KH_WRITE, n, 8);
+            for (int place = n; place < KH_EXTENTS; place++)
+                r = with_segment(r, place, 5, 1, 2);
+            CHECK_EQ(JUDGE(h, r), 0);
+            r.n++;
+            CHECK_EQ(JUDGE(h, r), sizes[i].off);
+        }
+    }
+}
+
+static void reason_29_read_write_barrier(host *h) {
+    for (size_t i = 0; i < COUNT_OF(sizes); i++) {
+        BEGIN(h, sizes[i].nodes);
+        for (uint8_t operation = KH_READ; operation <= KH_BARRIER; operation++) {
+            request r = transfer(operation, 3, 16);
+            CHECK_EQ(JUDGE(h, r), 0);
+            CHECK_EQ(JUDGE(h, with_segment(r, 2, 5, 1, 2)), sizes[i].off);
+            grant(h, 0, 6, KH_GRANT_READ);
+            CHECK_EQ(JUDGE(h, with_segment(r, 2, 6, 1, 2)), operation == KH_READ ? 27 : sizes[i].off);
+        }
+    }
+}
+
+/* Two segments of eleven, wherever they are: one is off, one fails a check that comes first. */
+static void reason_29_after_26_27_28(host *h) {
+    for (size_t i = 1; i < COUNT_OF(sizes); i++) {
+        BEGIN(h, sizes[i].nodes);
+        for (int pair = 0; pair < KH_EXTENTS * KH_EXTENTS; pair++) {
+            int off = pair / KH_EXTENTS, other = pair % KH_EXTENTS;
+            request r = with_segment(transfer(KH_READ, 11, 8), off, 5, 1, 2);
+            CHECK_EQ(JUDGE(h, with_segment(r, other, 5, 3, 2)), 26);
+            CHECK_EQ(JUDGE(h, with_segment(r, other, 5, 7, 8)), 26);
+            CHECK_EQ(JUDGE(h, with_segment(r, other, 100, 1, 2)), 27);
+            r.start = 2000;
+            CHECK_EQ(JUDGE(h, with_segment(r, other, 100, 0, 7)), 27);
+            CHECK_EQ(JUDGE(h, r), 28);
+        }
+    }
+}
+
+/* What stands in the places of segments would be off. */
+static void reason_29_no_segments(host *h) {
+    for (size_t i = 0; i < COUNT_OF(sizes); i++) {
+        BEGIN(h, sizes[i].nodes);
+        for (int flag = 0; flag < 256; flag++) {
+            request r = discard((uint8_t)flag, 8, 16);
+            CHECK_EQ(JUDGE(h, r), 0);
+            memset(r.segments, 1, sizeof r.segments);
+            CHECK_EQ(JUDGE(h, r), 0);
+        }
+        CHECK_EQ(JUDGE(h, with_segment(transfer(KH_FLUSH, 0, 1), 0, 5, 1, 2)), 0);
+        CHECK_EQ(JUDGE(h, with_segment(transfer(KH_BARRIER, 0, 1), 0, 5, 1, 2)), 0);
+    }
 }
 
 int main(void) {
@@ -239,6 +395,16 @@ int main(void) {
         TEST(reason_28_at_2_to_the_64),
         TEST(reason_29_misaligned),
         TEST(reason_29_total_count),
+        TEST(reason_29_each_segment),
+        TEST(reason_29_each_two_segments),
+        TEST(reason_29_segment_first),
+        TEST(reason_29_segment_last),
+        TEST(reason_29_two_halves),
+        TEST(reason_29_one_sector_each),
+        TEST(reason_29_behind_the_last),
+        TEST(reason_29_read_write_barrier),
+        TEST(reason_29_after_26_27_28),
+        TEST(reason_29_no_segments),
     };
     return run_in_both_layouts(tests, COUNT_OF(tests));
 }

@@ -7,6 +7,8 @@
 #include <inttypes.h>
 #include <stdarg.h>
 
+#include "port_words.h"
+
 /* ---- the files */
 
 enum { LINE_BYTES = 1024 };
@@ -74,41 +76,28 @@ __attribute__((format(printf, 2, 3))) static void print_count(const host *h, con
     va_end(values);
 }
 
-/* So many numbers and nothing else. */
-static bool read_numbers(const char *given, uint64_t *numbers, size_t count) {
+/* What is given behind so many numbers; NULL where there are not so many. */
+static const char *read_some(const char *given, uint64_t *numbers, size_t count) {
     char *end;
     for (size_t i = 0; i < count; i++, given = end) {
         numbers[i] = strtoull(given, &end, 10);
         if (end == given)
-            return false;
+            return NULL;
     }
-    return *given == '\0';
+    return given;
 }
 
-/* ---- what backend memory keeps of a port, one field to a word (crates/memory/src/lib.rt) */
-
-enum port_word {
-    WRITABLE = 1,
-    BARRIER,
-    FLUSH,
-    DISCARD,
-    SECURE,
-    SECTOR_SIZE, /* 0 to 3: 512 to 4,096 */
-    SECTORS,
-    LAYOUT, /* enum kh_abi */
-    CONSUMED,
-    PRODUCED,
-    BUSY, /* a bit to a tag */
-    PORT_WORDS = 12 + 4 * KH_TAGS
-};
-
-_Static_assert(KH_PORTS *PORT_WORDS + 1 == KH_MEMORY_WORDS, "the ports and the pointer");
-
-static uint64_t *port_words(const host *h, uint32_t port) {
-    return words(h, MEMORY) + PORT_WORDS * port;
+/* So many numbers and nothing else. */
+static bool read_numbers(const char *given, uint64_t *numbers, size_t count) {
+    given = read_some(given, numbers, count);
+    return given != NULL && *given == '\0';
 }
 
 /* ---- sheets */
+
+static uint64_t *port_words(const host *h, uint32_t port) {
+    return words_of_port(memory_of(h), port);
+}
 
 enum { LONGEST_SHEET = 5 + 65535 };
 
@@ -166,13 +155,24 @@ static void sheet_vectors(host *h) {
 
 /* ---- requests */
 
-/* The numbers of a line. */
+/* A segment, and the grant byte of its frame. */
+typedef struct {
+    uint64_t frame, first, last, right;
+} place;
+
+/* What a line gives. */
 typedef struct {
     uint64_t writable, barrier, flush, discard, secure, sector_size, sectors;
-    uint64_t operation, n, start, frame, first, last, right, count;
+    uint64_t operation, n, start, count; /* a discard's count */
+    place places[KH_EXTENTS];
 } numbers;
 
-enum { NUMBERS = sizeof(numbers) / sizeof(uint64_t) };
+enum { HEAD = offsetof(numbers, places) / sizeof(uint64_t), PLACE = sizeof(place) / sizeof(uint64_t) };
+
+static void set_places(numbers *is, place all) {
+    for (int i = 0; i < KH_EXTENTS; i++)
+        is->places[i] = all;
+}
 
 /* A turn over the request on port 0, and its completion where it starts. */
 static void serve_next(host *h) {
@@ -190,10 +190,12 @@ static void serve(host *h, const numbers *is, uint64_t id) {
         is->writable != 0 ? 'w' : 'r', is->barrier, is->flush, is->discard, is->secure, is->sector_size, is->sectors);
     BEGIN(h, nodes);
     memset(h->at[GRANTS], KH_GRANT_NONE, KH_GRANTS_BYTES);
-    if (is->frame < KH_PORT_GRANTS)
-        grant(h, 0, (uint32_t)is->frame, (uint8_t)is->right);
-    for (int i = 0; i < KH_EXTENTS; i++)
-        r.segments[i] = (segment){(uint32_t)is->frame, (uint8_t)is->first, (uint8_t)is->last};
+    for (int i = 0; i < KH_EXTENTS; i++) {
+        const place *at = &is->places[i];
+        r.segments[i] = (segment){(uint32_t)at->frame, (uint8_t)at->first, (uint8_t)at->last};
+        if (at->frame < KH_PORT_GRANTS)
+            grant(h, 0, (uint32_t)at->frame, (uint8_t)at->right);
+    }
     r.sectors = is->count;
     post(h, 0, r);
     put(slot_of(h, 0, 0) + layout_of(h, 0)->id, 8, id);
@@ -221,19 +223,50 @@ static void say_turn(const host *h, text *came) {
 static uint64_t cases_before; /* of this file */
 
 /* The id is read off the response. */
-static bool run_request(host *h, const char *given, text *came) {
-    numbers is;
-    if (!read_numbers(given, (uint64_t *)&is, NUMBERS))
-        return false;
-    serve(h, &is, ++cases_before);
+static void serve_case(host *h, const numbers *is, text *came) {
+    serve(h, is, ++cases_before);
     say(came, "%" PRIu64 " ", get(slot_of(h, 0, 0), 8));
     say_turn(h, came);
+}
+
+/* One segment for all places, and the count last. */
+static bool run_request(host *h, const char *given, text *came) {
+    struct {
+        uint64_t head[HEAD - 1];
+        place all;
+        uint64_t count;
+    } line;
+    numbers is;
+    if (!read_numbers(given, (uint64_t *)&line, sizeof line / sizeof(uint64_t)))
+        return false;
+    memcpy(&is, line.head, sizeof line.head);
+    set_places(&is, line.all);
+    is.count = line.count;
+    serve_case(h, &is, came);
+    return true;
+}
+
+/* Each segment behind a bar; in the places behind them every byte is EE. */
+static bool run_segments(host *h, const char *given, text *came) {
+    numbers is;
+    set_places(&is, (place){0xEEEEEEEE, 0xEE, 0xEE, KH_GRANT_NONE});
+    given = read_some(given, (uint64_t *)&is, HEAD);
+    for (int i = 0; i < KH_EXTENTS && given != NULL && strncmp(given, " |", 2) == 0; i++)
+        given = read_some(given + 2, (uint64_t *)&is.places[i], PLACE);
+    if (given == NULL || *given != '\0')
+        return false;
+    serve_case(h, &is, came);
     return true;
 }
 
 static void request_vectors(host *h) {
     cases_before = 0;
     print_count(h, "     %u requests\n", run_file(h, "tests/vectors/requests.txt", run_request));
+}
+
+static void segment_vectors(host *h) {
+    cases_before = 0;
+    print_count(h, "     %u requests by their segments\n", run_file(h, "tests/vectors/segments.txt", run_segments));
 }
 
 /* ---- records */
@@ -296,12 +329,12 @@ static bool run_worked_sheet(host *h, const char *given, text *came) {
 
 /* MODE SECTOR-SIZE SECTORS GRANT OPERATION N START FIRST LAST = start COUNT, or the reason */
 static bool run_worked_request(host *h, const char *given, text *came) {
-    numbers is = {.barrier = 1, .flush = 1, .discard = 1, .secure = 1, .frame = 5, .writable = given[0] == 'w'};
+    numbers is = {.barrier = 1, .flush = 1, .discard = 1, .secure = 1, .writable = given[0] == 'w'};
     uint64_t n[8];
     if (strchr("rw", given[0]) == NULL || !read_numbers(given + 1, n, COUNT_OF(n)))
         return false;
-    is.sector_size = n[0], is.sectors = n[1], is.right = n[2], is.operation = n[3];
-    is.n = n[4], is.start = n[5], is.first = n[6], is.last = n[7];
+    is.sector_size = n[0], is.sectors = n[1], is.operation = n[3], is.n = n[4], is.start = n[5];
+    set_places(&is, (place){5, n[6], n[7], n[2]});
     serve(h, &is, FIRST_ID);
     if (words(h, TURNED)[KH_TURN_KIND] == KH_STARTED)
         say(came, "start %" PRIu64, words(h, TURNED)[KH_TURN_COUNT]);
@@ -404,7 +437,7 @@ static void worked_cases(host *h) {
 
 int main(void) {
     static const test named[] = {TEST(sheet_vectors), TEST(record_vectors)};
-    static const test either[] = {TEST(request_vectors), TEST(worked_cases)};
+    static const test either[] = {TEST(request_vectors), TEST(segment_vectors), TEST(worked_cases)};
     int failed = run_tests(named, COUNT_OF(named));
     return run_in_both_layouts(either, COUNT_OF(either)) | failed;
 }

@@ -2,7 +2,7 @@
  * The library with one fault put before or after its calls, named by the environment variable WRONG, to see that the
  * tests find it. Linked between a test and the archive (the linker's --wrap).
  */
-#include "wrong.h"
+#include "wrong_29.h"
 
 uint32_t __real_kh_open(kh_memory *memory, uint32_t port, const uint8_t *sheet, size_t sheet_bytes);
 uint32_t __real_kh_close(kh_memory *memory, uint32_t port);
@@ -56,6 +56,45 @@ static uint32_t turn_by_112(kh_memory *memory, uint8_t *rings, const uint8_t *gr
         memcpy(rings + KH_RING_BYTES * port, moved + KH_RING_BYTES * port,
                abis[port] == KH_BITS32 ? KH_HEADER_BYTES : KH_RING_BYTES);
     move_slots(rings, KH_SLOT_BYTES, moved, KH_SLOT32_BYTES);
+    return number;
+}
+
+/* What the library would answer if every disk had 512-byte sectors. */
+static uint32_t try_with_512(const kh_memory *memory, const uint8_t *rings, const uint8_t *grants, size_t grants_bytes,
+                             uint64_t *answer) {
+    static kh_memory tried;
+    static uint8_t pages[KH_RINGS_BYTES];
+    tried = *memory;
+    memcpy(pages, rings, sizeof pages);
+    for (uint64_t port = 0; port < KH_PORTS; port++)
+        words_of_port(&tried, port)[SECTOR_SIZE] = 0;
+    return __real_kh_turn(&tried, pages, sizeof pages, grants, grants_bytes, answer);
+}
+
+/* A turn with 29 judged here. Where it is due, the library finds a start past any end, and its 28 is said as 29. */
+static uint32_t turn_by_own_29(kh_memory *memory, uint8_t *rings, const uint8_t *grants, size_t grants_bytes,
+                               uint64_t *answer) {
+    uint64_t seen[KH_TURN_WORDS], port, *kept, size;
+    uint8_t *slot, *start_at, start[8];
+    uint32_t number;
+    bool refused;
+    if (try_with_512(memory, rings, grants, grants_bytes, seen) != KH_OK || !is_29_next(seen))
+        return __real_kh_turn(memory, rings, KH_RINGS_BYTES, grants, grants_bytes, answer);
+    port = seen[KH_TURN_PORT];
+    kept = words_of_port(memory, port);
+    size = kept[SECTOR_SIZE];
+    slot = slot_of(rings + KH_RING_BYTES * port, kh_slot_bytes(abis[port]), (uint32_t)kept[CONSUMED]);
+    start_at = slot + (abis[port] == KH_BITS32 ? 12 : 16);
+    memcpy(start, start_at, sizeof start);
+    refused = is_29(slot, start_at, 1U << size);
+    if (refused)
+        memset(start_at, 0xFF, sizeof start);
+    kept[SECTOR_SIZE] = 0;
+    number = __real_kh_turn(memory, rings, KH_RINGS_BYTES, grants, grants_bytes, answer);
+    kept[SECTOR_SIZE] = size;
+    memcpy(start_at, start, sizeof start);
+    if (refused)
+        answer[KH_TURN_REASON] = KH_UNALIGNED;
     return number;
 }
 
@@ -128,6 +167,8 @@ uint32_t __wrap_kh_turn(kh_memory *memory, uint8_t *rings, size_t rings_bytes, c
     peek("before_turned", "after_turned", answer, 8 * KH_TURN_WORDS);
     if (wrong("slots_by_112") && rings_bytes == KH_RINGS_BYTES)
         number = turn_by_112(memory, rings, grants, grants_bytes, answer);
+    else if (is_29_judged_here() && rings_bytes == KH_RINGS_BYTES)
+        number = turn_by_own_29(memory, rings, grants, grants_bytes, answer);
     else
         number = __real_kh_turn(memory, rings, rings_bytes, grants, grants_bytes, answer);
     if (wrong("refused_turn_writes") && number != KH_OK)

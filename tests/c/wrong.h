@@ -7,13 +7,17 @@
 
 #include "kernelharp.h"
 
-static inline bool wrong(const char *fault) {
+static inline const char *chosen_fault(void) {
     static const char *chosen;
     if (chosen == NULL)
         chosen = getenv("WRONG");
     if (chosen == NULL)
         chosen = "";
-    return strcmp(chosen, fault) == 0;
+    return chosen;
+}
+
+static inline bool wrong(const char *fault) {
+    return strcmp(chosen_fault(), fault) == 0;
 }
 
 /* Reads the byte before or after a buffer. */

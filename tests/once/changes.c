@@ -28,10 +28,10 @@ static void move_others(unsigned port, changer *with) {
     move_index("req_event", port, REQ_EVENT, answered + 7, with);
 }
 
-/* Every third request of the list in the place of the one that is there, with another id; the next scenario begins at
+/* Every fifth request of the list in the place of the one that is there, with another id; the next scenario begins at
  * the next request. */
 static void replace_slot(unsigned port, changer *with) {
-    enum { STEP = 3 };
+    enum { STEP = 5 };
     static unsigned first;
     uint32_t index = bench.ports[port].taken;
     unsigned at = slot_at(port, index);
@@ -44,6 +44,22 @@ static void replace_slot(unsigned port, changer *with) {
         struct change change = {"slot", at, layout->slot_bytes, false, bytes};
         with(&change);
     }
+}
+
+/* Another part of its frame for a segment, at both ends of the request and between: on the boundaries of every disk, of
+   some, of none, and no part at all. */
+static void move_segments(unsigned port, changer *with) {
+    static const struct span parts[] = {{0, 7}, {4, 7}, {2, 3}, {1, 2}, {3, 2}};
+    unsigned at = slot_at(port, bench.ports[port].taken);
+    unsigned n = rings[at + 1] < KH_SEGMENTS ? rings[at + 1] : KH_SEGMENTS;
+    unsigned step = n > 2 ? (n - 1) / 2 : 1;
+    for (unsigned place = 0; place < n; place += step)
+        for (unsigned i = 0; i < sizeof parts / sizeof *parts; i++) {
+            uint8_t bytes[] = {parts[i].first, parts[i].last};
+            struct change change = {"segment", at + layout_of(port)->segments + 8 * place + 4, sizeof bytes, false,
+                                    bytes};
+            with(&change);
+        }
 }
 
 static void flip(const char *name, unsigned at, unsigned size, changer *with) {
@@ -90,8 +106,10 @@ void each_change(const struct scenario *scenario, changer *with) {
     }
     move_req_prod(port, with);
     move_others(port, with);
-    if (scenario->expect.kind == STARTED || scenario->expect.kind == ANSWERED)
+    if (scenario->expect.kind == STARTED || scenario->expect.kind == ANSWERED) {
         replace_slot(port, with);
+        move_segments(port, with);
+    }
     flip("slot flipped", slot_at(port, bench.ports[port].taken), layout_of(port)->slot_bytes, with);
     flip("page flipped", PAGE_BYTES * port, PAGE_BYTES, with);
     flip("all rings flipped", 0, KH_RINGS_BYTES, with);

@@ -15,8 +15,13 @@ struct segment {
     uint8_t first, last;
 };
 
-/* The first segments of a request are whole frames that may be read and written; the last one is given. A discard has
- * `sectors` in their place. */
+/* First and last sector of a frame. */
+struct span {
+    uint8_t first, last;
+};
+
+/* The first segments of a request are whole frames, or these parts of them, that may be read and written; the last one
+ * is given. A discard has `sectors` in their place. */
 struct request {
     const char *name;
     const struct disk *disk;
@@ -24,8 +29,9 @@ struct request {
     uint64_t start;
     struct segment last;
     uint64_t sectors;
-    uint32_t reason, status; /* 0 where it starts */
-    int32_t due;             /* the result that a started one is to be completed with */
+    uint32_t reason, status;  /* 0 where it starts */
+    int32_t due;              /* the result that a started one is to be completed with */
+    const struct span *parts; /* null: whole frames */
 };
 
 extern const struct request requests[];

@@ -14,6 +14,7 @@ static const char *const names[] = {
     [SLOT_OF_112] = "slot-of-112",
     [SLOT_BY_LIBRARY] = "slot-by-library",
     [SECOND_LOOK] = "second-look",
+    [BOUNDARIES_AGAIN] = "boundaries-again",
     [RSP_EVENT_TWICE] = "rsp-event-twice",
     [RSP_EVENT_ALWAYS] = "rsp-event-always",
     [RSP_PROD_READ] = "rsp-prod-read",
@@ -152,6 +153,13 @@ static void look_again(unsigned port, uint64_t *answer) {
     }
 }
 
+/* One look at the segments for 26 to 28, and another for the boundaries of a disk of larger sectors. */
+static void look_at_boundaries(unsigned port, const uint64_t *answer) {
+    unsigned at = slot_at(port, bench.ports[port].taken) + layout_of(port)->segments;
+    for (unsigned i = 0; bench.ports[port].unit > 1 && i < answer[KH_TURN_EXTENT_COUNT]; i++)
+        take32(at + 8 * i + 4);
+}
+
 static void end_turn(unsigned port, uint64_t *answer) {
     if (answer[KH_TURN_KIND] == IDLE)
         for (unsigned k = 0; k < PORTS; k++)
@@ -188,6 +196,8 @@ static uint32_t turn(kh_memory *memory, uint8_t *lent, size_t rings_bytes, const
         take_slot(port);
     copy_for_trial(memory);
     kh_turn(&trial.memory, trial.rings, rings_bytes, grants, grants_bytes, answer);
+    if (answer[KH_TURN_KIND] == STARTED && fault == BOUNDARIES_AGAIN)
+        look_at_boundaries(port, answer);
     if (answer[KH_TURN_KIND] == ANSWERED)
         take_rsp_event(port);
     uint32_t refusal = kh_turn(memory, copy, rings_bytes, grants, grants_bytes, answer);

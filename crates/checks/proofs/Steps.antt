@@ -7,7 +7,7 @@ use native.Mathlib.Omega.{arith}
 use lib.Dec.{ltb}
 use lib.ListN.{getD}
 use Rattle.model.specs.Ring.{Request}
-use Rattle.model.specs.Checks.{movesNothing, countOf, Check, check, operationChecks, segmentChecks, diskChecks, checks, firstFailed}
+use Rattle.model.specs.Checks.{movesNothing, countOf, dataSegments, Check, check, operationChecks, segmentChecks, diskChecks, checks, firstFailed}
 use Rattle.model.specs.Plan.{planOf, decided, verdictOf}
 use Rattle.model.specs.declared.Checked.{Checked}
 use Rattle.model.specs.declared.Params.{Params}
@@ -62,7 +62,7 @@ first-append (c ∷ cs) ys = rw (first-append cs ys) (spread (c .fails))
 
 pub by-steps : (p : Params) (grants : List ℕ) (r : Request)
     → verdictOf p grants r ≡ decided (planOf r) (andThen (firstFailed (operationChecks p r)) (andThen (firstFailed (segmentChecks grants r))
-    (firstFailed (cond (movesNothing r) [] (diskChecks p (r .start) (countOf r))))))
+    (firstFailed (cond (movesNothing r) [] (diskChecks p (r .start) (countOf r) (dataSegments r))))))
 unfolding verdictOf checks
 by-steps p grants r = rw (first-append (operationChecks p r), first-append (segmentChecks grants r))
 

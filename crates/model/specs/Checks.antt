@@ -47,6 +47,10 @@ totalSectors (s ∷ ss) = sectorsIn s + totalSectors ss
 unfoldable pub countOf : Request → ℕ
 countOf r = firstOf (isA discard r ⇒ r .sectors ∷ movesNothing r ⇒ 0 ∷ []) (totalSectors (r .segments))
 
+-- the segments that say where its sectors are: a discard has none (rule 8.8)
+unfoldable pub dataSegments : Request → List Segment
+dataSegments r = cond (isA discard r) [] (r .segments)
+
 -- how many sectors of 512 bytes one of the disk's has (rule 8.29)
 abbrev pub unitOf : SectorSize → ℕ
 unitOf SectorSize.Bytes512 = 1
@@ -57,6 +61,10 @@ unitOf SectorSize.Bytes4096 = 8
 -- a multiple of that (rule 8.29)
 unfoldable pub isAligned : SectorSize → ℕ → Bool
 isAligned z x = eqb (x % unitOf z) 0
+
+-- a segment begins and ends on boundaries of the disk's sectors (rule 8.29)
+unfoldable pub isOnBoundaries : SectorSize → Segment → Bool
+isOnBoundaries z s = isAligned z (s .first) && isAligned z (s .last + 1)
 
 -- ---- grants
 
@@ -117,9 +125,9 @@ notGranted grants r = not (isA discard r || movesNothing r) && not (all (isGrant
 unfoldable pub pastEnd : Params → ℕ → ℕ → Bool
 pastEnd p start count = ltb (p .sectors) (start + count)
 
--- 29: the range does not keep to whole sectors of the disk, a discard's too (rules 8.11 and 8.29)
-unfoldable pub unaligned : Params → ℕ → ℕ → Bool
-unaligned p start count = not (isAligned (p .sector) start && isAligned (p .sector) count)
+-- 29: the range, or one of the segments, does not keep to whole sectors of the disk (rules 8.11 and 8.29)
+unfoldable pub unaligned : Params → ℕ → ℕ → List Segment → Bool
+unaligned p start count ss = not (isAligned (p .sector) start && isAligned (p .sector) count && all (isOnBoundaries (p .sector)) ss)
 
 -- ---- the table of the checks
 
@@ -149,16 +157,17 @@ segmentChecks grants r =
     ∷ check 27 Status.Error (notGranted grants r)
     ∷ []
 
--- its range on the disk (rules 8.9, 8.11, 8.28 and 8.29)
-unfoldable pub diskChecks : Params → ℕ → ℕ → List Check
-diskChecks p start count =
+-- where it lies on the disk (rules 8.9, 8.11, 8.28 and 8.29)
+unfoldable pub diskChecks : Params → ℕ → ℕ → List Segment → List Check
+diskChecks p start count ss =
     check 28 Status.Error (pastEnd p start count)
-    ∷ check 29 Status.Error (unaligned p start count)
+    ∷ check 29 Status.Error (unaligned p start count ss)
     ∷ []
 
 -- the nine checks, in number order (rule 8.2); a request that moves nothing has no range (rule 8.7)
 unfoldable pub checks : Params → List ℕ → Request → List Check
-checks p grants r = operationChecks p r ++ (segmentChecks grants r ++ cond (movesNothing r) [] (diskChecks p (r .start) (countOf r)))
+checks p grants r =
+    operationChecks p r ++ (segmentChecks grants r ++ cond (movesNothing r) [] (diskChecks p (r .start) (countOf r) (dataSegments r)))
 
 -- the first check of a list that the request fails (rule 8.2)
 abbrev pub firstFailed : List Check → Checked

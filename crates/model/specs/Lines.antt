@@ -7,7 +7,7 @@ use lib.Dec.{eqb}
 use lib.IntN.{ℤ, pos, negsuc}
 use lib.ListN.{replicate, set}
 use Rattle.wire.specs.LittleEndian.{store}
-use Rattle.model.specs.Ring.{Layout, layoutOf, ringOf, requestOf, statusBits, read, write, barrier}
+use Rattle.model.specs.Ring.{Layout, layoutOf, ringOf, requestOf, statusBits, read, write, barrier, discard}
 use Rattle.model.specs.Port.{inFlightOf, distance, pendingOf}
 use Rattle.model.specs.Plan.{verdictOf}
 use Rattle.model.specs.Complete.{statusOf}
@@ -104,6 +104,25 @@ starred =
     ∷ starts 8 (judge (disk true SectorSize.Bytes4096 2008) (grant 2) (slot read 1 8 0 7))
     -- rule 9.15: its start is half a sector off
     ∷ refused 29 (judge (disk true SectorSize.Bytes4096 2008) (grant 2) (slot read 1 4 0 7))
+    -- rule 9.26: two halves of a sector, though together they have the sectors of a whole one
+    ∷ refused 29 (judge (disk true SectorSize.Bytes4096 2008) (grant 2) (slot read 2 8 0 3))
+    -- rule 9.27: on a disk of smaller sectors each is a whole one
+    ∷ starts 8 (judge (disk true SectorSize.Bytes2048 2008) (grant 2) (slot read 2 8 0 3))
+    -- rule 9.28: they end where a sector does, but do not begin so
+    ∷ refused 29 (judge (disk true SectorSize.Bytes2048 2008) (grant 2) (slot read 2 8 2 3))
+    -- rule 9.29: the sectors of a whole one, from the middle of one to that of the next
+    ∷ refused 29 (judge (disk true SectorSize.Bytes2048 2008) (grant 2) (slot read 1 8 2 5))
+    -- rule 9.30: on a disk of smaller sectors it is two of them
+    ∷ starts 4 (judge (disk true SectorSize.Bytes1024 2008) (grant 2) (slot read 1 2 2 5))
+    -- rule 9.31: a barrier is a write like others
+    ∷ refused 29 (judge (disk true SectorSize.Bytes4096 2008) (grant 1) (slot barrier 2 8 0 3))
+    -- rule 9.32: 28 comes before 29
+    ∷ refused 28 (judge (disk true SectorSize.Bytes4096 2008) (grant 2) (slot read 1 2004 0 7))
+    -- rule 9.33: a barrier without segments has no range
+    ∷ starts 0 (judge (disk true SectorSize.Bytes4096 2008) (grant 2) (slot barrier 0 4 0 7))
+    -- rule 9.34: a discard has no segments, but a range; its sectors stand where a segment would
+    ∷ starts 8 (judge (disk true SectorSize.Bytes4096 2008) (grant 2) (store 8 (slot discard 1 8 0 0) 24 8))
+    ∷ refused 29 (judge (disk true SectorSize.Bytes4096 2008) (grant 2) (store 8 (slot discard 1 8 0 0) 24 12))
     -- rule 9.16: 24 comes before 25
     ∷ refused 24 (judge (disk false SectorSize.Bytes512 2008) (grant 2) (slot write 12 2000 0 7))
     -- rule 9.17: a full ring

@@ -19,11 +19,11 @@ use Rattle.checks.proofs.Steps.{none-fails, all-passed}
 use Rattle.request.proofs.Verdict.{few-segments}
 
 module _ (q : Params) (l : Layout) (grants slot : List ℕ) (plan : Plan) (e : verdictOf q grants (requestOf l slot) ≡ Verdict.Start plan) where
-  known : unknownOperation (requestOf l slot) ≡ false
+  pub known : unknownOperation (requestOf l slot) ≡ false
   unfolding checks operationChecks
   known = none-fails (checks q grants (requestOf l slot)) 0 (all-passed q grants (requestOf l slot) plan e .0)
 
-  amount : wrongAmount (requestOf l slot) ≡ false
+  pub amount : wrongAmount (requestOf l slot) ≡ false
   unfolding checks operationChecks
   amount = none-fails (checks q grants (requestOf l slot)) 4 (all-passed q grants (requestOf l slot) plan e .0)
 

@@ -12,7 +12,7 @@ use lib.ListN.{length}
 use Rattle.model.specs.Base.{all}
 use Rattle.model.specs.Ring.{Request}
 use Rattle.layout.specs.Copy.{requestIn}
-use Rattle.model.specs.Checks.{asksSecure, isEmptyBarrier, movesNothing, totalSectors, countOf, isGranted, unknownOperation, wrongAmount, isWithinFrame, wrongSegment, notGranted, operationChecks, segmentChecks, diskChecks, firstFailed}
+use Rattle.model.specs.Checks.{asksSecure, isEmptyBarrier, movesNothing, totalSectors, countOf, dataSegments, isGranted, unknownOperation, wrongAmount, isWithinFrame, wrongSegment, notGranted, operationChecks, segmentChecks, diskChecks, firstFailed}
 use Rattle.model.specs.Plan.{extentsFrom, extentsOf, extentWords, planOf, decided, verdictOf, noWords, wordsBeside}
 use Rattle.model.specs.declared.Checked.{Checked}
 use Rattle.model.specs.declared.Params.{Params}
@@ -76,7 +76,7 @@ module _ (r : Request) (u : unknownOperation r ≡ false) (w : wrongAmount r ≡
       (λ o. omega (arith, eqb-true (r .n) 0 (not-off (eqb (r .n) 0) (rw o at w))))
 
   -- with segments it moves sectors
-  moves : (r .n ≡ 0 → ⊥) → movesNothing r ≡ false
+  pub moves : (r .n ≡ 0 → ⊥) → movesNothing r ≡ false
   unfolding movesNothing isEmptyBarrier wrongAmount
   moves k =
       by-operation _
@@ -112,7 +112,7 @@ module _ (p : Params) (r : Request) (h : firstFailed (operationChecks p r) ≡ C
 
   -- 28 and 29, or the plan
   range-verdict : (grants : List ℕ) → firstFailed (segmentChecks grants r) ≡ Checked.Passed → movesNothing r ≡ false
-      → verdictOf p grants r ≡ decided (planOf r) (firstFailed (diskChecks p (r .start) (countOf r)))
+      → verdictOf p grants r ≡ decided (planOf r) (firstFailed (diskChecks p (r .start) (countOf r) (dataSegments r)))
   range-verdict grants s m = by-steps p grants r ∙ rw (h, s, m)
 
 -- ---- a discard
@@ -130,16 +130,20 @@ module _ (p : Params) (grants : List ℕ) (r : Request) (h : firstFailed (operat
   unfolding countOf
   discard-count = rw o
 
+  discard-none : dataSegments r ≡ []
+  unfolding dataSegments
+  discard-none = rw o
+
   discard-plan : Verdict.Start (planOf r) ≡ discardStart (r .start) (r .sectors) (eqb (r .flag % 2) 1)
   unfolding planOf asksSecure extentsOf
   discard-plan = rw (discard-count, discard-moves, o)
 
-  pub discard-refused : (n : ℕ) (s : Status) → firstFailed (diskChecks p (r .start) (r .sectors)) ≡ Checked.Refused n s → verdictOf p grants r ≡ Verdict.Refused n s
-  discard-refused n s e = range-verdict p r h grants discard-segments discard-moves ∙ rw (discard-count, e)
+  pub discard-refused : (n : ℕ) (s : Status) → firstFailed (diskChecks p (r .start) (r .sectors) []) ≡ Checked.Refused n s → verdictOf p grants r ≡ Verdict.Refused n s
+  discard-refused n s e = range-verdict p r h grants discard-segments discard-moves ∙ rw (discard-count, discard-none, e)
 
-  pub discard-started : firstFailed (diskChecks p (r .start) (r .sectors)) ≡ Checked.Passed
+  pub discard-started : firstFailed (diskChecks p (r .start) (r .sectors) []) ≡ Checked.Passed
       → verdictOf p grants r ≡ discardStart (r .start) (r .sectors) (eqb (r .flag % 2) 1)
-  discard-started e = range-verdict p r h grants discard-segments discard-moves ∙ rw (discard-count, e) discard-plan
+  discard-started e = range-verdict p r h grants discard-segments discard-moves ∙ rw (discard-count, discard-none, e) discard-plan
 
   pub discard-extents : extentsOf r ≡ []
   unfolding extentsOf
@@ -202,17 +206,21 @@ module _ (p : Params) (grants : List ℕ) (r : Request) (h : firstFailed (operat
       unfolding countOf
       data-count = rw (ne-eqb (r .pair .operation) 5 d, data-moves)
 
+      data-all : dataSegments r ≡ r .segments
+      unfolding dataSegments
+      data-all = rw (ne-eqb (r .pair .operation) 5 d)
+
       data-plan : Verdict.Start (planOf r) ≡ dataStart (r .pair .operation) (r .start) (totalSectors (r .segments)) (length (r .segments))
       unfolding planOf asksSecure
       data-plan = rw (data-count, data-moves, data-extents, ne-eqb (r .pair .operation) 5 d, length-extents (r .start) (r .segments))
 
-      pub data-refused : (n : ℕ) (s : Status) → firstFailed (diskChecks p (r .start) (totalSectors (r .segments))) ≡ Checked.Refused n s
+      pub data-refused : (n : ℕ) (s : Status) → firstFailed (diskChecks p (r .start) (totalSectors (r .segments)) (r .segments)) ≡ Checked.Refused n s
           → verdictOf p grants r ≡ Verdict.Refused n s
-      data-refused n s z = range-verdict p r h grants data-segments data-moves ∙ rw (data-count, z)
+      data-refused n s z = range-verdict p r h grants data-segments data-moves ∙ rw (data-count, data-all, z)
 
-      pub data-started : firstFailed (diskChecks p (r .start) (totalSectors (r .segments))) ≡ Checked.Passed
+      pub data-started : firstFailed (diskChecks p (r .start) (totalSectors (r .segments)) (r .segments)) ≡ Checked.Passed
           → verdictOf p grants r ≡ dataStart (r .pair .operation) (r .start) (totalSectors (r .segments)) (length (r .segments))
-      data-started z = range-verdict p r h grants data-segments data-moves ∙ rw (data-count, z) data-plan
+      data-started z = range-verdict p r h grants data-segments data-moves ∙ rw (data-count, data-all, z) data-plan
 
 -- ---- the promise
 

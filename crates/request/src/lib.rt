@@ -13,15 +13,19 @@ use model::Status;
 use model::Verdict;
 use model::operation::DISCARD;
 use model::reason::READ_ONLY;
+use model::reason::UNALIGNED;
 use segments::Counted;
-ghost use mathlib.Core.Bool.{cond};
+ghost use mathlib.Core.Bool.{true, cond};
 ghost use mathlib.Core.Path.{_≡_};
+ghost use Prim.Native.Nat.{_≤_};
 ghost use lib.Dec.{ltb};
 ghost use lib.ListN.{length, getD};
+ghost use Rattle.model.specs.Base.{all};
 ghost use Rattle.model.specs.Buffers.{grantShare};
+ghost use Rattle.model.specs.Checks.{maxSegments, isWithinFrame, totalSectors, diskChecks, firstFailed};
 ghost use Rattle.model.specs.Plan.{planWords, noWords};
-ghost use Rattle.model.specs.Ring.{requestOperationAt, requestCountAt, discard};
-ghost use Rattle.layout.specs.Copy.{requestIn};
+ghost use Rattle.model.specs.Ring.{requestOperationAt, requestCountAt, discard, segmentsOf};
+ghost use Rattle.layout.specs.Copy.{copyLayout, requestIn};
 ghost use Rattle.model.specs.declared.Status.{Status as Due};
 ghost use Rattle.model.specs.declared.Verdict.{Verdict as Judgement};
 ghost use Rattle.checks.specs.Operations.{operationReason};
@@ -125,6 +129,26 @@ fn discard(params: Params, slot: &[u8; SLOT_BYTES], grants: &[u8], words: &mut [
     }
 }
 
+// 28 and 29 of a request whose first n segments, `count` sectors in all, lie within their frames.
+fn check_place(params: Params, slot: &[u8; SLOT_BYTES], n: usize, start: u64, count: u64) -> Checked
+    requires { ⌜ (n ≤ maxSegments) × (all isWithinFrame (segmentsOf n copyLayout (now slot) 0) ≡ true) × (count ≡ totalSectors (segmentsOf n copyLayout (now slot) 0)) ⌝ }
+    ensures { λ r. ⌜ r ≡ firstFailed (diskChecks params start count (segmentsOf n copyLayout (now (slot .entry)) 0)) ⌝ }
+{
+    let range = checks::check_range(params, start, count);
+    match range {
+        Checked::Refused(reason, status) => {
+            return Checked::Refused(reason, status);
+        }
+        Checked::Passed => {
+            let sector = params.sector;
+            if segments::keep_to_sectors(sector, slot, n, count) {
+                return Checked::Passed;
+            }
+            return Checked::Refused(UNALIGNED, Status::Error);
+        }
+    }
+}
+
 // A read, write or barrier with segments that passed the checks 21 to 25.
 fn data(params: Params, slot: &[u8; SLOT_BYTES], grants: &[u8], words: &mut [u64]) -> Verdict
     requires { ⌜ (length (now grants) ≡ grantShare) × (operationReason params (requestIn (now slot)) ≡ 0) × (getD (now slot) requestOperationAt 0 ≡ discard → ⊥) × (getD (now slot) requestCountAt 0 ≡ 0 → ⊥) × (length (now words) ≡ planWords) ⌝ }
@@ -143,8 +167,8 @@ fn data(params: Params, slot: &[u8; SLOT_BYTES], grants: &[u8], words: &mut [u64
             );
         }
         Counted::Sectors(count) => {
-            let range = checks::check_range(params, start, count);
-            match range {
+            let place = check_place(params, slot, n as usize, start, count);
+            match place {
                 Checked::Refused(reason, status) => {
                     return refuse(reason, status, words);
                 }

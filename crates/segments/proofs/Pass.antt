@@ -19,7 +19,7 @@ use Rattle.model.specs.declared.Segment.{Segment}
 use Rattle.model.proofs.Base.{and-left, and-right, and-false}
 use Rattle.segments.specs.Segments.{passes, Scanned}
 use Rattle.segments.specs.declared.Counted.{Counted}
-use Rattle.segments.proofs.Slot.{all-and, all-snoc, all-fails, length-segments, segments-snoc, within-total, total-snoc}
+use Rattle.segments.proofs.Slot.{all-and, all-snoc, all-stops, length-segments, segments-snoc, within-total, total-snoc}
 use Rattle.extents.proofs.Words.{length-extents, extents-snoc, words-snoc, words-add, take-put}
 
 -- ---- one segment
@@ -133,7 +133,7 @@ module _ (grants : List ℕ) (operation : ℕ) (start : ℕ) where
   pub fails-at : (l : Layout) (slot : List ℕ) (n i : ℕ) (words : List ℕ) → i < n → passes grants operation (segmentOf l slot i) ≡ false
       → Scanned grants operation start (segmentsOf n l slot 0) Counted.Fault words
   fails-at l slot n i words h e =
-      scan-fails (segmentsOf n l slot 0) words (all-fails (passes grants operation) n l slot 0 i h (rw (zero-add i) e))
+      scan-fails (segmentsOf n l slot 0) words (all-stops (passes grants operation) l slot n i h e)
 
 -- ---- what a pass says
 

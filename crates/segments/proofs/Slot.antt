@@ -4,7 +4,7 @@ use mathlib.Core.Path.{_≡_, refl, ap}
 use mathlib.Core.Bool.{Bool, true, false, _&&_}
 use mathlib.Core.List.{List, [], _∷_, _++_}
 use Prim.Native.Nat.{ℕ, zero, suc, _+_, _*_, _<_, _≤_}
-use native.Mathlib.Nat.{add-zero}
+use native.Mathlib.Nat.{add-zero, zero-add}
 use native.Mathlib.Omega.{arith}
 use lib.Dec.{leb}
 use lib.ListN.{length}
@@ -51,7 +51,7 @@ segments-snoc (suc n) l slot k =
     rw (e, ← f) (ap (λ (r : List Segment). segmentOf l slot k ∷ r) (segments-snoc n l slot (suc k)))
 
 -- a test that one of them fails
-pub all-fails : (f : Segment → Bool) (n : ℕ) (l : Layout) (slot : List ℕ) (k i : ℕ) → i < n → f (segmentOf l slot (k + i)) ≡ false
+all-fails : (f : Segment → Bool) (n : ℕ) (l : Layout) (slot : List ℕ) (k i : ℕ) → i < n → f (segmentOf l slot (k + i)) ≡ false
     → all f (segmentsOf n l slot k) ≡ false
 unfolding all segmentsOf
 all-fails f zero l slot k i h e = absurd (omega arith)
@@ -59,6 +59,14 @@ all-fails f (suc n) l slot k zero h e = rw (rw add-zero at e)
 all-fails f (suc n) l slot k (suc i) h e =
     let j : k + suc i ≡ suc k + i = omega arith in
     rw (all-fails f n l slot (suc k) i (omega arith) (rw j at e)) (and-false (f (segmentOf l slot k)))
+
+-- from the first on, as a loop goes: one more that passes, or one that does not
+module _ (f : Segment → Bool) (l : Layout) (slot : List ℕ) where
+  pub all-more : (i : ℕ) → all f (segmentsOf i l slot 0) ≡ true → f (segmentOf l slot i) ≡ true → all f (segmentsOf (i + 1) l slot 0) ≡ true
+  all-more i h e = rw (segments-snoc i l slot 0, zero-add i) (all-snoc f (segmentsOf i l slot 0) (segmentOf l slot i) h e)
+
+  pub all-stops : (n i : ℕ) → i < n → f (segmentOf l slot i) ≡ false → all f (segmentsOf n l slot 0) ≡ false
+  all-stops n i h e = all-fails f n l slot 0 i h (rw (zero-add i) e)
 
 -- ---- sectors
 
@@ -81,13 +89,20 @@ module _ (s : Segment) where
   unfolding isWithinFrame
   within-yes a h = rw (le-leb (s .first) (s .last) a, le-leb (s .last) 7 h)
 
--- a segment within its frame has at most 8 sectors
-within-sectors : (s : Segment) → isWithinFrame s ≡ true → sectorsIn s ≤ 8
-unfolding isWithinFrame sectorsIn
-within-sectors s h =
-    let low = leb-true (s .first) (s .last) (and-left (leb (s .first) (s .last)) (leb (s .last) 7) h) in
-    let high = leb-true (s .last) 7 (and-right (leb (s .first) (s .last)) (leb (s .last) 7) h) in
-    omega arith
+-- and what it says
+module _ (s : Segment) (w : isWithinFrame s ≡ true) where
+  pub within-ordered : s .first ≤ s .last
+  unfolding isWithinFrame
+  within-ordered = leb-true (s .first) (s .last) (and-left (leb (s .first) (s .last)) (leb (s .last) 7) w)
+
+  pub within-last : s .last ≤ 7
+  unfolding isWithinFrame
+  within-last = leb-true (s .last) 7 (and-right (leb (s .first) (s .last)) (leb (s .last) 7) w)
+
+  -- it has at most 8 sectors
+  pub within-sectors : sectorsIn s ≤ 8
+  unfolding sectorsIn
+  within-sectors = omega (arith, within-ordered, within-last)
 
 pub within-total : (ss : List Segment) → all isWithinFrame ss ≡ true → totalSectors ss ≤ 8 * length ss
 unfolding all totalSectors

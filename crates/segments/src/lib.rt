@@ -1,4 +1,7 @@
-// Checks 26 and 27 over a request's segments, and the extents that they become.
+// Checks 26, 27 and 29 over a request's segments, and the extents that they become.
+mod boundaries;
+
+pub use boundaries::keep_to_sectors;
 use layout::COPY_SEGMENTS;
 use layout::SEGMENT_BYTES;
 use layout::SEGMENT_FIRST;

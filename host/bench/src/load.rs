@@ -46,12 +46,15 @@ impl fmt::Display for Layout {
     }
 }
 
-/// How many segments a read has, how many ports are open, from port 0 on, and their layout.
+/// How many segments a read has, how many ports are open, from port 0 on, and their layout; the disks'
+/// sector size, and how many sectors a segment has.
 #[derive(Clone, Copy)]
 pub struct Load {
     pub segments: usize,
     pub ports: usize,
     pub layout: Layout,
+    pub sector_size: u32,
+    pub length: usize,
 }
 
 /// The full load first; then fewer segments, then fewer ports, then other guests.
@@ -65,12 +68,28 @@ pub const LOADS: [Load; 7] = [
     Load::new(11, 8, Layout::Both),
 ];
 
+/// The sectors of a frame.
+const FRAME_SECTORS: usize = 8;
+
 impl Load {
+    /// Whole frames, on disks of the smallest sectors.
     pub const fn new(segments: usize, ports: usize, layout: Layout) -> Load {
         Load {
             segments,
             ports,
             layout,
+            sector_size: 512,
+            length: FRAME_SECTORS,
+        }
+    }
+
+    /// The same on other disks, with segments of `length` sectors, which divides a frame.
+    pub fn on(self, sector_size: u32, length: usize) -> Load {
+        assert_eq!(FRAME_SECTORS % length, 0, "segments that fill frames");
+        Load {
+            sector_size,
+            length,
+            ..self
         }
     }
 
@@ -78,7 +97,7 @@ impl Load {
     pub fn sheet(self, port: usize) -> Vec<u8> {
         let sheet = Sheet {
             writable: true,
-            sector_size: 512,
+            sector_size: self.sector_size,
             sectors: 1_048_576,
             abi: self.layout.of_port(port),
             ..Sheet::default()
@@ -92,6 +111,7 @@ impl Load {
             segments,
             ports,
             layout,
+            ..
         } = self;
         [segments.to_string(), ports.to_string(), layout.to_string()]
     }
@@ -106,22 +126,25 @@ impl Load {
         let (mut page, abi) = ([0; RING_BYTES], self.layout.of_port(port));
         for index in 0..SLOTS {
             let number = (SLOTS * port + index) as u64;
-            // Whole frames, 352 of them to a port.
-            let frames = (11 * index..).take(self.segments);
-            let segments: Vec<Segment> = frames.map(whole_frame).collect();
+            let segments: Vec<Segment> = (0..self.segments)
+                .map(|segment| self.segment(index, segment))
+                .collect();
             let read = Request::segmented(READ, 0x1_0001 * number, 88 * number, &segments);
             let slot = &mut page[abi.slot_at(index as u32)..][..abi.slot_bytes()];
             slot.copy_from_slice(&read.slot(abi));
         }
         page
     }
-}
 
-fn whole_frame(frame: usize) -> Segment {
-    Segment {
-        frame: frame as u32,
-        first: 0,
-        last: 7,
+    /// A segment of the read in a slot. Each has a frame to itself, 352 frames to a port, and begins
+    /// where the one before it ended in its own.
+    fn segment(self, slot: usize, segment: usize) -> Segment {
+        let first = self.length * segment % FRAME_SECTORS;
+        Segment {
+            frame: (11 * slot + segment) as u32,
+            first: first as u8,
+            last: (first + self.length - 1) as u8,
+        }
     }
 }
 

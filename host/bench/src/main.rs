@@ -11,8 +11,10 @@
 //! - `bench rounds guest RING ROUNDS`: rounds of a ring filled and emptied by a guest, likewise.
 //!
 //! LOAD is SEGMENTS PORTS LAYOUT, where the layout of the guests is `64-bit`, `32-bit`, or `both` by
-//! turns. DIGITS is how many the number of sectors has. RING is SEGMENTS REQUESTS ORDER: so many
-//! requests are put in a row and answered `as-put` or in `reverse`. `tests/bench` runs all of it.
+//! turns; for rounds, SECTOR-SIZE LENGTH may follow: disks of that sector size, and segments of so
+//! many sectors. DIGITS is how many the number of sectors has. RING is SEGMENTS REQUESTS ORDER: so
+//! many requests are put in a row and answered `as-put` or in `reverse`. `tests/bench` runs all of
+//! it.
 
 mod guest;
 mod load;
@@ -44,16 +46,14 @@ fn main() {
         ["memory"] => stack::print(),
         ["rounds", "archive", digits, rounds] => numbers::run(number(digits), number(rounds)),
         ["rounds", program, segments, ports, layout, rounds] => {
-            let (load, rounds) = (load(segments, ports, layout), number(rounds));
-            match program {
-                "archive" => run(Bench::new(Archive::new(), load), rounds),
-                "metered" => run(Bench::new(Metered::new(), load), rounds),
-                "second" => run(Bench::new(Second::new(), load), rounds),
-                other => panic!("{other} is neither archive, metered nor second"),
-            }
+            run_program(program, load(segments, ports, layout), number(rounds))
+        }
+        ["rounds", program, segments, ports, layout, size, length, rounds] => {
+            let load = load(segments, ports, layout).on(number(size) as u32, number(length));
+            run_program(program, load, number(rounds))
         }
         _ => panic!(
-            "times, numbers, guest, memory, sample LOAD|DIGITS|guest RING, rounds archive|metered|second LOAD ROUNDS, rounds archive DIGITS ROUNDS, or rounds guest RING ROUNDS; LOAD is SEGMENTS PORTS LAYOUT, RING is SEGMENTS REQUESTS ORDER"
+            "times, numbers, guest, memory, sample LOAD|DIGITS|guest RING, rounds archive|metered|second LOAD ROUNDS, rounds archive DIGITS ROUNDS, or rounds guest RING ROUNDS; LOAD is SEGMENTS PORTS LAYOUT, for rounds also with SECTOR-SIZE LENGTH, RING is SEGMENTS REQUESTS ORDER"
         ),
     }
 }
@@ -70,6 +70,15 @@ fn load(segments: &str, ports: &str, layout: &str) -> Load {
 fn ring(segments: &str, requests: &str, order: &str) -> guest::Load {
     let order = guest::Order::of(order).expect("as-put or reverse");
     guest::Load::new(number(segments), number(requests), order)
+}
+
+fn run_program(program: &str, load: Load, rounds: usize) {
+    match program {
+        "archive" => run(Bench::new(Archive::new(), load), rounds),
+        "metered" => run(Bench::new(Metered::new(), load), rounds),
+        "second" => run(Bench::new(Second::new(), load), rounds),
+        other => panic!("{other} is neither archive, metered nor second"),
+    }
 }
 
 fn run<P: Program>(mut bench: Bench<P>, rounds: usize) {

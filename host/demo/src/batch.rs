@@ -214,8 +214,8 @@ impl Batch<'_> {
     /// Adds a read that fails a check: nothing may be moved.
     fn add_spoiled(&mut self) {
         let (mut segments, sectors) = (self.any_segments(READ), self.model.sectors());
-        let (mut operation, mut start) = (READ, 0);
-        let (whole, fault) = (segments.clone(), self.random.below(7));
+        let (mut operation, mut start, unit) = (READ, 0, self.profile.unit() as usize);
+        let (whole, fault) = (segments.clone(), self.random.below(8));
         match fault {
             // The types of the guest's half have no such request.
             0 if self.profile.sheet.abi == Abi::Bits32 => {
@@ -231,7 +231,12 @@ impl Batch<'_> {
                     .random
                     .pick(&[sectors, u64::MAX - self.profile.unit() + 1])
             }
-            _ if self.profile.unit() > 1 => start = 1,
+            6 if unit > 1 => start = 1,
+            // The halves of a unit: their total is fine, but none of them is.
+            7 if unit > 1 => {
+                let (frame, half) = (segments[0].frame, unit / 2);
+                segments = vec![segment(frame, 0, half - 1), segment(frame, half, unit - 1)];
+            }
             _ => start = sectors,
         }
         let status = if operation == READ {
@@ -294,30 +299,16 @@ impl Batch<'_> {
         });
     }
 
-    /// Segments of any shape whose sectors together are a multiple of the disk's unit.
+    /// Segments of any shape in whole units of the disk.
     fn any_segments(&mut self, operation: u8) -> Vec<Segment> {
-        let n = 1 + self.random.index(EXTENTS);
-        let mut segments = Vec::new();
-        for frame in self.next_frames(operation).take(n) {
-            let first = self.random.index(FRAME_SECTORS);
-            let last = first + self.random.index(FRAME_SECTORS - first);
-            segments.push(segment(frame, first, last));
-        }
-        let unit = self.profile.unit();
-        while sectors_of(&segments) % unit != 0 {
-            match segments.last_mut().expect("a sum of none is 0") {
-                tail if tail.first < tail.last => tail.last -= 1,
-                _ => drop(segments.pop()),
-            }
-        }
-        if segments.is_empty() {
-            segments.push(segment(
-                self.next_frames(operation).start,
-                0,
-                unit as usize - 1,
-            ));
-        }
-        segments
+        let (n, unit) = (1 + self.random.index(EXTENTS), self.profile.unit() as usize);
+        let (frames, units) = (self.next_frames(operation).take(n), FRAME_SECTORS / unit);
+        let any = |frame| {
+            let first = self.random.index(units);
+            let last = first + self.random.index(units - first);
+            segment(frame, unit * first, unit * last + unit - 1)
+        };
+        frames.map(any).collect()
     }
 
     /// Where so many sectors can be asked for; none if a few tries find no place. A barrier may

@@ -8,7 +8,7 @@ use frontend::EventChannel;
 use generate::Random;
 use kernelharp::layout::PORTS;
 use kernelharp::live::LiveBackend;
-use kernelharp::{Abi, Name, Operation, Plan, Port, Refusal, Sheet, Turn};
+use kernelharp::{Abi, Extent, Name, Operation, Plan, Port, Refusal, Sheet, Turn};
 
 /// Turns in a row before the host goes on with the I/O.
 const BURST: usize = 64;
@@ -135,6 +135,7 @@ impl<'a> Host<'a> {
                 }
                 Turn::Started(plan) => {
                     let port = plan.name.port.index();
+                    check_boundaries(&plan, self.profiles[port].unit())?;
                     self.counts.ports[port].own.count_taken();
                     self.held[port].push(plan);
                 }
@@ -222,5 +223,40 @@ impl<'a> Host<'a> {
         if notify {
             self.links[port.index()].to_guest.notify();
         }
+    }
+}
+
+/// No medium reads or writes a part of one of its sectors.
+fn check_boundaries(plan: &Plan, unit: u64) -> Result<(), String> {
+    let whole = |extent: &Extent| {
+        let (first, length) = (extent.first_sector.into(), extent.length.into());
+        [first, length, extent.disk_sector]
+            .iter()
+            .all(|number| number % unit == 0)
+    };
+    if plan.extents().iter().all(whole) {
+        Ok(())
+    } else {
+        Err(format!("{plan} asks for parts of a sector"))
+    }
+}
+
+#[cfg(test)]
+mod tests {
+    use super::*;
+    use kernelharp::words::{extent, kind, turn, TURN_WORDS};
+
+    #[test]
+    fn a_plan_of_two_halves_is_found() {
+        let mut words = [0; TURN_WORDS];
+        (words[turn::KIND], words[turn::COUNT]) = (kind::STARTED, 8);
+        words[turn::EXTENT_COUNT] = 2;
+        words[turn::EXTENTS..][..2 * extent::WORDS].copy_from_slice(&[5, 0, 4, 0, 5, 4, 4, 4]);
+        let Some(Turn::Started(plan)) = Turn::from_words(&words) else {
+            panic!("a start")
+        };
+        check_boundaries(&plan, 4).unwrap();
+        let fault = check_boundaries(&plan, 8).unwrap_err();
+        assert!(fault.ends_with(" asks for parts of a sector"), "{fault}");
     }
 }

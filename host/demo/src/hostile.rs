@@ -1,9 +1,9 @@
-//! A guest that breaks the rules: rubbish in its slots, requests rewritten while they are read,
-//! requests of another layout than it said, scribbled indices, req_prod moved back and at last far
-//! ahead. Then it connects again, in the other layout.
+//! A guest that breaks the rules: rubbish in its slots, sectors of its disk in halves, requests
+//! rewritten while they are read, requests of another layout than it said, scribbled indices, req_prod
+//! moved back and at last far ahead. Then it connects again, in the other layout.
 
 use crate::batch::{BARRIER, DISCARD, READ, WRITE};
-use crate::link::{Link, State, BOUND, READ_WRITE_FRAMES};
+use crate::link::{Link, State, BOUND, FRAME_SECTORS, READ_WRITE_FRAMES};
 use crate::pattern::Model;
 use crate::report::Checks;
 use frontend::{EventChannel, Request};
@@ -82,7 +82,8 @@ impl<'a> Hostile<'a> {
     fn play(&mut self) {
         match self.random.below(100) {
             0..30 => self.send(Self::rubbish),
-            30..60 => self.send(Self::damaged),
+            30..55 => self.send(Self::damaged),
+            55..60 => self.send(Self::halved),
             60..80 => self.rewrite_while_it_is_read(),
             80..85 => self.mistake_the_layout(),
             85..95 => self.scribble(),
@@ -153,16 +154,25 @@ impl<'a> Hostile<'a> {
         slot
     }
 
+    /// A write of one sector of its disk, in two halves.
+    fn halved(&mut self) -> Vec<u8> {
+        let frame = READ_WRITE_FRAMES as u32;
+        let halves = [(0, 3), (4, 7)].map(|(first, last)| Segment { frame, first, last });
+        Request::segmented(WRITE, self.random.word(), 0, &halves).slot(self.abi)
+    }
+
     /// A sound request to its own disk and frames.
     fn sound(&mut self) -> Vec<u8> {
         self.sound_request().slot(self.abi)
     }
 
+    /// One in whole sectors of its disk, which are as large as frames.
     fn sound_request(&mut self) -> Request {
         let operation = self.random.pick(&[READ, WRITE, WRITE, BARRIER, DISCARD]);
-        let (id, start) = (self.random.word(), self.random.below(2000));
+        let whole = FRAME_SECTORS as u64;
+        let (id, start) = (self.random.word(), whole * self.random.below(250));
         if operation == DISCARD {
-            let (secure, count) = (self.random.chance(50), 1 + self.random.below(40));
+            let (secure, count) = (self.random.chance(50), whole * (1 + self.random.below(5)));
             return Request::discard(id, secure, start, count);
         }
         let granted = if operation == READ {
@@ -173,7 +183,7 @@ impl<'a> Hostile<'a> {
         let segment = Segment {
             frame: (granted + self.random.index(READ_WRITE_FRAMES)) as u32,
             first: 0,
-            last: self.random.below(8) as u8,
+            last: 7,
         };
         let segments = vec![segment; 1 + self.random.index(5)];
         Request::segmented(operation, id, start, &segments)

@@ -111,7 +111,7 @@ pub fn profiles() -> [Profile; PORTS] {
     };
     let no_flush = Sheet {
         flush: false,
-        ..full(512, 2048)
+        ..full(4096, 2048)
     };
     let mut all = [
         Profile::new("board, first zone", board(0), full(512, 2816)),

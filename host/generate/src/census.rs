@@ -1,5 +1,6 @@
 //! Counts what occurred in a run, and tells what did not.
 
+mod boundaries;
 mod classes;
 mod completions;
 mod meters;

@@ -3,12 +3,16 @@
 use crate::Random;
 use kernelharp::layout::{Abi, EXTENTS};
 use second::{Disk, Operation};
+use std::ops::Range;
 
 pub const READ: u8 = Operation::Read as u8;
 pub const WRITE: u8 = Operation::Write as u8;
 pub const BARRIER: u8 = Operation::Barrier as u8;
 pub const FLUSH: u8 = Operation::Flush as u8;
 pub const DISCARD: u8 = Operation::Discard as u8;
+
+/// The sectors of a frame.
+const FRAME_SECTORS: u64 = 8;
 
 /// A request before it is put into a slot.
 pub struct Draft {
@@ -24,6 +28,14 @@ pub struct Segment {
     pub frame: u32,
     pub first: u8,
     pub last: u8,
+}
+
+impl Segment {
+    /// Makes it the sectors of a frame from one up to another.
+    fn set(&mut self, sectors: Range<u64>) {
+        self.first = sectors.start as u8;
+        self.last = sectors.end as u8 - 1;
+    }
 }
 
 impl Draft {
@@ -57,12 +69,13 @@ pub fn any_request(
     if random.chance(5) {
         return noise(random, abi);
     }
-    let number = 21 + random.below(9);
+    // There are more ways to fail at 29 than at any other check.
+    let number = (21 + random.below(12)).min(29);
     let mut draft = faulty_operation(random, number, disk, grants);
     spoil(random, number, &mut draft, disk, grants);
     // A second fault shows the order of the checks.
-    if random.chance(20) {
-        let second = 25 + random.below(5);
+    if random.chance(50) {
+        let second = (25 + random.below(8)).min(29);
         spoil(random, second, &mut draft, disk, grants);
     }
     encode(random, abi, &draft)
@@ -92,7 +105,7 @@ fn allowed_operations(disk: &Disk) -> Vec<u8> {
         allowed.extend([WRITE, WRITE]);
     }
     if disk.writable && disk.barrier {
-        allowed.push(BARRIER);
+        allowed.extend([BARRIER, BARRIER]);
     }
     if disk.flush {
         allowed.push(FLUSH);
@@ -133,6 +146,14 @@ fn faulty_operation(random: &mut Random, number: u64, disk: &Disk, grants: &[u8]
                 (WRITE, true),
                 (BARRIER, disk.barrier),
                 (DISCARD, disk.discard),
+            ],
+        ),
+        26 | 27 => having(
+            true,
+            [
+                (READ, true),
+                (WRITE, disk.writable),
+                (BARRIER, disk.writable && disk.barrier),
             ],
         ),
         _ => Vec::new(),
@@ -204,32 +225,42 @@ fn segments(random: &mut Random, operation: u8, disk: &Disk, grants: &[u8]) -> V
         2..=4 => 1,
         _ => 1 + random.index(EXTENTS),
     };
-    let mut lengths: Vec<u64> = (0..amount).map(|_| 1 + random.below(8)).collect();
-    // Only the total has to be a multiple of the unit: the last length makes it one.
-    let unit = disk.unit();
-    let excess = lengths.iter().sum::<u64>() % unit;
-    let last = &mut lengths[amount - 1];
-    if excess != 0 {
-        if *last > excess {
-            *last -= excess;
-        } else {
-            *last += unit - excess;
+    let whole = random.chance(25);
+    let segment = |_| {
+        let mut segment = Segment {
+            frame: granted_frame(random, operation, grants),
+            first: 0,
+            last: 7,
+        };
+        if !whole {
+            segment.set(aligned_sectors(random, disk.unit()));
         }
-    }
-    lengths
-        .into_iter()
-        .map(|length| {
-            let first = random.below(9 - length) as u8;
-            Segment {
-                frame: granted_frame(random, operation, grants),
-                first,
-                last: first + length as u8 - 1,
-            }
-        })
-        .collect()
+        segment
+    };
+    (0..amount).map(segment).collect()
 }
 
-fn is_granted(operation: u8, grant: u8) -> bool {
+/// Sectors of a frame that begin and end on boundaries of the disk's.
+fn aligned_sectors(random: &mut Random, unit: u64) -> Range<u64> {
+    let steps = FRAME_SECTORS / unit;
+    let begin = random.below(steps);
+    let end = begin + 1 + random.below(steps - begin);
+    unit * begin..unit * end
+}
+
+/// Sectors of a frame that do not, for a unit above 1.
+fn unaligned_sectors(random: &mut Random, unit: u64) -> Range<u64> {
+    let (begins, ends) = random.pick(&[(false, true), (true, false), (false, false)]);
+    loop {
+        let begin = random.below(FRAME_SECTORS);
+        let end = begin + 1 + random.below(FRAME_SECTORS - begin);
+        if (begin % unit == 0, end % unit == 0) == (begins, ends) {
+            return begin..end;
+        }
+    }
+}
+
+pub fn is_granted(operation: u8, grant: u8) -> bool {
     grant == 2 || grant == 1 && operation != READ
 }
 
@@ -314,29 +345,50 @@ fn spoil_range(random: &mut Random, draft: &mut Draft, disk: &Disk) {
     }
 }
 
-/// A start, or a total, that is no multiple of the unit; none for a unit of 1.
+/// A start, a discard's count or a segment that is not in whole units; none for a unit of 1.
 fn spoil_alignment(random: &mut Random, draft: &mut Draft, disk: &Disk) {
     let unit = disk.unit();
     if unit == 1 {
         return;
     }
-    if random.chance(50) {
+    if draft.has_segments() && random.chance(85) {
+        spoil_segments(random, &mut draft.segments, unit);
+        // The total is another one now, and has to fit.
+        draft.start = place(random, draft.count(), disk);
+    } else if draft.operation == DISCARD && random.chance(50) {
+        draft.discard_count = draft.discard_count.saturating_sub(1).max(1);
+    } else {
         draft.start = draft.start.wrapping_sub(1 + random.below(unit - 1));
         if draft.start > disk.sectors {
             draft.start = 1;
         }
-    } else if draft.operation == DISCARD {
-        draft.discard_count = draft.discard_count.saturating_sub(1).max(1);
-    } else if let Some(segment) = draft.segments.last_mut() {
-        // One sector less, or one more where there is only one.
-        if segment.first < segment.last {
-            segment.last -= 1;
-        } else if segment.last < 7 {
-            segment.last += 1;
-        } else {
-            segment.first = segment.first.saturating_sub(1);
-        }
     }
+}
+
+/// All segments, two neighbours or one of them, often the first or the last, not in whole units.
+fn spoil_segments(random: &mut Random, segments: &mut [Segment], unit: u64) {
+    let tail = segments.len() - 1;
+    let any = random.index(tail + 1);
+    let at = random.pick(&[0, 0, tail, any]);
+    match random.index(6) {
+        0 => {
+            for segment in segments {
+                segment.set(unaligned_sectors(random, unit));
+            }
+        }
+        1 | 2 if at < tail => split_unit(random, &mut segments[at..], unit),
+        _ => segments[at].set(unaligned_sectors(random, unit)),
+    }
+}
+
+/// Makes the first two segments the parts of one unit, so that their total stays in whole units. The
+/// second goes on where the first ends, or begins as the first does.
+fn split_unit(random: &mut Random, segments: &mut [Segment], unit: u64) {
+    let begin = unit * random.below(FRAME_SECTORS / unit);
+    let cut = 1 + random.below(unit - 1);
+    segments[0].set(begin..begin + cut);
+    let begin = random.pick(&[begin, begin + cut]);
+    segments[1].set(begin..begin + unit - cut);
 }
 
 /// Puts a draft into a slot; every byte that has no meaning is random.

@@ -78,7 +78,7 @@ numbered! {
     WrongSegment = 26, "a segment without first <= last <= 7";
     NotGranted = 27, "a frame not granted as needed";
     PastEnd = 28, "start + count above sectors, as whole numbers";
-    Unaligned = 29, "start or count not divisible by sector-size / 512";
+    Unaligned = 29, "start, count, or where a segment begins or ends, not divisible by sector-size / 512";
 }
 
 impl Reason {

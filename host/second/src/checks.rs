@@ -156,11 +156,14 @@ impl<'a> Case<'a> {
         })
     }
 
-    /// 29: start or count not in whole units.
+    /// 29: start, count or some segment not in whole units. Only reads, writes and barriers have
+    /// segments (rule 8.8).
     fn unaligned(&self) -> bool {
         let unit = self.disk.unit();
-        self.disk_range()
-            .is_some_and(|(start, count)| start % unit != 0 || count % unit != 0)
+        let range_unaligned = self
+            .disk_range()
+            .is_some_and(|(start, count)| start % unit != 0 || count % unit != 0);
+        range_unaligned || !self.segments.iter().all(|it| it.is_aligned(unit))
     }
 
     /// Rules 5.24 and 5.25.

@@ -23,6 +23,12 @@ impl Segment {
         self.first <= self.last && self.last <= 7
     }
 
+    /// Whether it begins and ends on a boundary of units, as check 29 wants.
+    pub fn is_aligned(&self, unit: u64) -> bool {
+        let (first, behind) = (u64::from(self.first), u64::from(self.last) + 1);
+        first % unit == 0 && behind % unit == 0
+    }
+
     /// How many sectors a sound segment has.
     pub fn length(&self) -> u64 {
         u64::from(self.last - self.first) + 1

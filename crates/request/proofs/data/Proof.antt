@@ -1,18 +1,20 @@
 -- `request::data` meets its contract: what the pass found, then what the range's checks say, or the plan. Assumes nothing.
 use borrow.Author.Needs.{needs}
-use mathlib.Core.Path.{_≡_, sym, ap, ap₂, _∙_}
+use mathlib.Core.Path.{_≡_, sym, ap, _∙_}
 use mathlib.Core.Bool.{true, false}
+use mathlib.Core.List.{List}
 use Prim.Native.Nat.{ℕ, _+_, _^_, _<_, _≤_}
 use native.Mathlib.Omega.{arith}
 use lib.ListN.{length}
 use Rattle.model.specs.Base.{all}
-use Rattle.model.specs.Ring.{Request, requestOf}
+use Rattle.model.specs.Ring.{Request, segmentsOf, requestOf}
 use Rattle.layout.specs.Copy.{copyLayout, requestIn}
-use Rattle.model.specs.Checks.{totalSectors, operationChecks, diskChecks, firstFailed}
+use Rattle.model.specs.Checks.{isWithinFrame, totalSectors, operationChecks, diskChecks, firstFailed}
 use Rattle.model.specs.Plan.{extentWords}
 use Rattle.model.specs.declared.Checked.{Checked}
+use Rattle.model.specs.declared.Params.{Params}
 use Rattle.segments.specs.Segments.{passes, Scanned}
-use Rattle.segments.proofs.Pass.{scan-fault, scan-sectors, words-all}
+use Rattle.segments.proofs.Pass.{passes-within, scan-fault, scan-sectors, words-all}
 use Rattle.segments.proofs.Slot.{length-segments}
 use Rattle.checks.proofs.DiskRange.{passed-within}
 use Rattle.checks.proofs.Steps.{operation-passed}
@@ -49,20 +51,32 @@ found : (x : tie.After-scan)
 unfolding requestOf
 found x = rw (x .before .before .before .before .wide .ensures, begins x) at (x .scan .ensures)
 
--- every segment passed, and the range is the request's
-abbrev pass : tie.After-check-range → tie.After-scan
-pass k = k .before .before .before .before .before .before
+-- as many segments as byte 1 says
+said : (x : tie.After-scan) → x .before .before .before .before .wide .result ≡ asked (entry x) .n
+unfolding requestOf
+said x = x .before .before .before .before .wide .ensures
 
-counted : (k : tie.After-check-range)
+-- every segment passed, and the sectors are theirs
+abbrev pass : tie.After-known-told → tie.After-scan
+pass k = k .before .before .before .before .before
+
+counted : (k : tie.After-known-told)
     → (all (passes (entry (pass k) .args .grants .now) (asked (entry (pass k)) .pair .operation)) (asked (entry (pass k)) .segments) ≡ true)
-    × (k .before .before .found .given .0 .0 ≡ totalSectors (asked (entry (pass k)) .segments))
-counted k = scan-sectors _ _ _ _ _ _ (found (pass k)) _ (k .before .before .found .given .1)
+    × (k .before .found .given .0 .0 ≡ totalSectors (asked (entry (pass k)) .segments))
+counted k = scan-sectors _ _ _ _ _ _ (found (pass k)) _ (k .before .found .given .1)
 
-ranged : (k : tie.After-check-range)
-    → k .check-range .result ≡ firstFailed (diskChecks (entry (pass k) .args .params) (asked (entry (pass k)) .start) (totalSectors (asked (entry (pass k)) .segments)))
-ranged k =
-    k .check-range .ensures
-    ∙ ap₂ (λ (s n : ℕ). firstFailed (diskChecks (entry (pass k) .args .params) s n)) (begins (pass k)) (counted k .1)
+-- where it lies is the request's
+same-place : (p : Params) (slot : List ℕ) {v : Checked} {s t k l m n : ℕ} → v ≡ firstFailed (diskChecks p s k (segmentsOf m copyLayout slot 0)) → s ≡ t → k ≡ l → m ≡ n
+    → v ≡ firstFailed (diskChecks p t l (segmentsOf n copyLayout slot 0))
+same-place p slot e a b c = e ∙ rw (a, b, c)
+
+placed : (k : tie.After-check-place) → let o = entry (pass (k .before)) in
+    k .check-place .result ≡ firstFailed (diskChecks (o .args .params) (asked o .start) (totalSectors (asked o .segments)) (asked o .segments))
+unfolding requestOf
+placed k =
+    let x = pass (k .before) in
+    let a = entry x .args in
+    same-place (a .params) (a .slot .now) (k .check-place .ensures) (begins x) (counted (k .before) .1) (said x)
 
 element-copy-out-operation : tie.Need-element-copy-out-operation
 element-copy-out-operation c = search needs
@@ -118,11 +132,22 @@ returns c =
 enum-known-found : tie.Need-enum-known-found
 enum-known-found c = search needs
 
-check-range-requires : tie.Need-check-range-requires
-check-range-requires c κs = search needs
+cast-check-place : tie.Need-cast-check-place
+cast-check-place c = search needs
 
-enum-known-range : tie.Need-enum-known-range
-enum-known-range c = search needs
+check-place-requires : tie.Need-check-place-requires
+unfolding requestOf
+check-place-requires c κs =
+    let x = pass c in
+    let o = entry x in
+    let s = o .args .slot .now in (
+      omega (arith, few o, said x),
+      ap (λ (n : ℕ). all isWithinFrame (segmentsOf n copyLayout s 0)) (said x) ∙ passes-within _ _ _ (counted c .0),
+      counted c .1 ∙ sym (ap (λ (n : ℕ). totalSectors (segmentsOf n copyLayout s 0)) (said x)),
+    )
+
+enum-known-place : tie.Need-enum-known-place
+enum-known-place c = search needs
 
 refuse-requires-2 : tie.Need-refuse-requires-2
 refuse-requires-2 c κs = search needs
@@ -135,10 +160,10 @@ unfolding requestOf
 returns-2 c =
     let done = c .before .before in
     let k = done .before .before .before .before .before in
-    let o = entry (pass k) in
+    let o = entry (pass (k .before)) in
     let a = o .args in
     judged-refused (a .params) (a .grants .now) (a .slot .now) _ _ _ _
-    (data-refused (a .params) (a .grants .now) (asked o) (passed o) (o .pre .2) (o .pre .3) (counted k .0) _ _ (sym (ranged k) ∙ done .before .before .before .range .given .1))
+    (data-refused (a .params) (a .grants .now) (asked o) (passed o) (o .pre .2) (o .pre .3) (counted (k .before) .0) _ _ (sym (placed k) ∙ done .before .before .before .place .given .1))
     (done .refuse2 .ensures .0)
     (done .refuse2 .ensures .1)
 
@@ -150,7 +175,7 @@ cast-clear-from c = search needs
 
 clear-from-requires : tie.Need-clear-from-requires
 unfolding requestOf
-clear-from-requires c κs = let x = pass (c .before .before .before) in let o = entry x in omega (arith, few o, x .before .before .before .before .wide .ensures, o .pre .0)
+clear-from-requires c κs = let x = pass (c .before .before .before .before) in let o = entry x in omega (arith, few o, x .before .before .before .before .wide .ensures, o .pre .0)
 
 cast-start-data : tie.Need-cast-start-data
 cast-start-data c = search needs
@@ -167,21 +192,21 @@ returns-3 c =
     let cleared = c .before .before .before in
     let told = cleared .before .before in
     let k = told .before .before in
-    let x = pass k in
+    let x = pass (k .before) in
     let o = entry x in
     let a = o .args in
     let p = a .params in
     let g = a .grants .now in
     let r = asked o in
     let n = x .before .before .before .before .wide .ensures in
-    let whole = sym (ranged k) ∙ told .enum-told2 .given .1 in
+    let whole = sym (placed k) ∙ told .enum-told2 .given .1 in
     -- check 28 has passed: so no disk sector wrapped
-    let fits : r .start + totalSectors (r .segments) < 2 ^ 64 = omega (arith, passed-within p (r .start) (totalSectors (r .segments)) whole, o .good) in
+    let fits : r .start + totalSectors (r .segments) < 2 ^ 64 = omega (arith, passed-within p (r .start) (totalSectors (r .segments)) (r .segments) whole, o .good) in
     judged-start p g (a .slot .now) _ _ _
-    (data-started p g r (passed o) (o .pre .2) (o .pre .3) (counted k .0) whole)
-    (c .start-data .ensures ∙ same-start _ false (begins x) (counted k .1) (n ∙ sym (long o)))
+    (data-started p g r (passed o) (o .pre .2) (o .pre .3) (counted (k .before) .0) whole)
+    (c .start-data .ensures ∙ same-start _ false (begins x) (counted (k .before) .1) (n ∙ sym (long o)))
     (rw n at (cleared .clear-from .ensures)
-    ∙ words-all (r .start) (r .n) (r .segments) _ (long o) (few o) (rw (long o) at (found x .front (counted k .0) fits))
+    ∙ words-all (r .start) (r .n) (r .segments) _ (long o) (few o) (rw (long o) at (found x .front (counted (k .before) .0) fits))
     ∙ ap (extentWords 11) (sym (data-extents p g r (passed o) (o .pre .2))))
 
 pub data-spec : {M : Type 1} → statement M
@@ -201,8 +226,9 @@ data-spec =
     same-length
     returns
     enum-known-found
-    check-range-requires
-    enum-known-range
+    cast-check-place
+    check-place-requires
+    enum-known-place
     refuse-requires-2
     same-length-2
     returns-2

@@ -2,6 +2,7 @@
 use borrow.Author.Needs.{needs}
 use borrow.Author.Tests.{ne-eqb}
 use mathlib.Core.Path.{_≡_, refl, sym, ap, ap₂, _∙_}
+use mathlib.Core.List.{[]}
 use Prim.Native.Nat.{ℕ, _%_}
 use Rattle.model.specs.Ring.{Request, requestOf}
 use Rattle.layout.specs.Copy.{requestIn}
@@ -32,8 +33,8 @@ counts : (k : tie.After-check-range) → k .before .u64-at2 .result ≡ asked (e
 unfolding requestOf
 counts k = k .before .u64-at2 .ensures
 
-ranged : (k : tie.After-check-range) → k .check-range .result ≡ firstFailed (diskChecks (entry k .args .params) (asked (entry k) .start) (asked (entry k) .sectors))
-ranged k = k .check-range .ensures ∙ ap₂ (λ (s n : ℕ). firstFailed (diskChecks (entry k .args .params) s n)) (begins k) (counts k)
+ranged : (k : tie.After-check-range) → k .check-range .result ≡ firstFailed (diskChecks (entry k .args .params) (asked (entry k) .start) (asked (entry k) .sectors) [])
+ranged k = k .check-range .ensures ∙ ap₂ (λ (s n : ℕ). firstFailed (diskChecks (entry k .args .params) s n [])) (begins k) (counts k)
 
 u64-at-requires : tie.Need-u64-at-requires
 u64-at-requires c κs = search needs

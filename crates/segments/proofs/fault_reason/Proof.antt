@@ -4,13 +4,12 @@ use mathlib.Core.Path.{_≡_, refl}
 use mathlib.Core.Bool.{true, false, cond}
 use mathlib.Core.List.{List}
 use Prim.Native.Nat.{ℕ, _-_, _<_, _≤_}
-use native.Mathlib.Nat.{zero-add}
 use native.Mathlib.Omega.{arith}
 use Rattle.model.specs.Base.{all}
 use Rattle.model.specs.Checks.{isWithinFrame}
 use Rattle.model.specs.Ring.{Layout, segmentOf, segmentsOf}
 use Rattle.layout.specs.Copy.{copyLayout}
-use Rattle.segments.proofs.Slot.{all-snoc, all-fails, segments-snoc, within-order, within-end, within-yes}
+use Rattle.segments.proofs.Slot.{all-more, all-stops, within-order, within-end, within-yes}
 use Rattle.segments.proofs.fault_reason.Statement.{statement}
 use Rattle.segments.proofs.fault_reason.Tie as tie
 
@@ -42,7 +41,7 @@ element-copy-out-last c = search needs
 -- 26 where segment i is not within its frame
 fails-at : (l : Layout) (slot : List ℕ) (n i : ℕ) → i < n → isWithinFrame (segmentOf l slot i) ≡ false
     → _≡_ {A = ℕ} 26 (cond (all isWithinFrame (segmentsOf n l slot 0)) 27 26)
-fails-at l slot n i h e = rw (all-fails isWithinFrame n l slot 0 i h (rw (zero-add i) e))
+fails-at l slot n i h e = rw (all-stops isWithinFrame l slot n i h e)
 
 returns : tie.Need-returns Inv-loop μ-loop
 unfolding segmentOf
@@ -75,8 +74,7 @@ loop-again c =
     let at-i = g .segment-at .ensures .0 in
     let s = segmentOf copyLayout (a .slot .now) (l .i) in (
       omega arith,
-      rw (segments-snoc (l .i) copyLayout (a .slot .now) 0, zero-add (l .i))
-          (all-snoc isWithinFrame _ s (l .inv .1) (within-yes s (rw at-i at (c .before .if1 .left)) (rw at-i at (c .if2 .left)))),
+      all-more isWithinFrame copyLayout (a .slot .now) (l .i) (l .inv .1) (within-yes s (rw at-i at (c .before .if1 .left)) (rw at-i at (c .if2 .left))),
     )
 
 returns-3 : tie.Need-returns-3 Inv-loop μ-loop

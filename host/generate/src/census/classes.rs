@@ -1,5 +1,6 @@
 //! What a long run should show.
 
+use super::boundaries::boundary_classes;
 use super::meters::{meter_classes, port_meter_classes};
 use super::sheets::{body_class, opened_by, protocol_fault, NUMBER, TEXT};
 use super::{class_of, reopened_class, served_after_class, LENGTHS};
@@ -62,6 +63,7 @@ fn port_classes() -> Vec<String> {
     classes.extend(Abi::ALL.map(reopened_class));
     classes.extend(Abi::ALL.map(served_after_class));
     classes.extend(port_meter_classes());
+    classes.extend(boundary_classes());
     classes
 }
 
@@ -167,6 +169,5 @@ const PORT_CLASSES: &[&str] = &[
     "started, secure discard",
     "started, tag 31",
     "started, tag come back",
-    "started, total aligned though an extent is not",
     "started, up to the last sector",
 ];

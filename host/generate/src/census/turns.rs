@@ -40,6 +40,8 @@ impl Census {
         let ahead = read_u32(page(lent, port), REQ_PROD).wrapping_sub(taken);
         let in_flight = history.unfinished(port);
         let abi = self.books[port].abi;
+        let slot = &page(lent, port)[abi.slot_at(taken)..][..abi.slot_bytes()];
+        let grants = &grants[PORT_GRANTS * port..][..PORT_GRANTS];
         match answer[turn::KIND] {
             kind::IDLE => return self.note_idle(history),
             kind::STARTED => {
@@ -47,13 +49,12 @@ impl Census {
                 self.note_close_start(port, answer);
             }
             kind::ANSWERED => {
-                let slot = &page(lent, port)[abi.slot_at(taken)..][..abi.slot_bytes()];
                 self.note_answer(abi, answer, slot[0]);
-                let grants = &grants[PORT_GRANTS * port..][..PORT_GRANTS];
                 self.note_close_answer(abi, answer, slot, grants);
             }
             _ => return self.note_overrun(abi, ahead, in_flight),
         }
+        self.note_boundaries(port, answer, slot, grants);
         self.tick_of_if(abi, ahead == 32 - in_flight, "served at the line");
         self.tick_of_if(abi, in_flight == 31, "served with 31 in flight");
         self.tick_of_if(abi, taken % 32 == 31, "served from slot 31");
@@ -118,22 +119,14 @@ impl Census {
         let Some(disk) = &self.books[port].disk else {
             return;
         };
-        let (abi, unit, sectors) = (self.books[port].abi, disk.unit(), disk.sectors);
+        let (abi, sectors) = (self.books[port].abi, disk.sectors);
         let (start, count) = (answer[turn::START], answer[turn::COUNT]);
         let used = answer[turn::EXTENT_COUNT] as usize;
-        let extents = || answer[turn::EXTENTS..].chunks(extent::WORDS).take(used);
+        let mut extents = answer[turn::EXTENTS..].chunks(extent::WORDS).take(used);
         let to_the_end = count > 0 && start.checked_add(count) == Some(sectors);
         self.tick_of_if(abi, to_the_end, "started, up to the last sector");
-        self.tick_of_if(
-            abi,
-            extents().any(|words| words[extent::LENGTH] % unit != 0),
-            "started, total aligned though an extent is not",
-        );
-        self.tick_of_if(
-            abi,
-            extents().any(|words| words[extent::FRAME] == 1023),
-            "started, frame 1023",
-        );
+        let highest = extents.any(|words| words[extent::FRAME] == 1023);
+        self.tick_of_if(abi, highest, "started, frame 1023");
     }
 
     /// Faults next to a line.

@@ -1,11 +1,20 @@
--- `checks::disk_range::check_range` meets its contract, by cases on the sector sizes. Assumes nothing.
+-- `checks::disk_range::check_range` meets its contract. Assumes nothing.
 use borrow.Author.Needs.{needs}
-use mathlib.Core.Path.{sym, _∙_}
-use native.Mathlib.Nat.{mod-one}
-use Rattle.model.specs.Checks.{isAligned}
-use Rattle.checks.proofs.DiskRange.{range-past, range-within, aligned-all}
+use mathlib.Core.Path.{_≡_, sym, _∙_}
+use mathlib.Core.Bool.{cond, _&&_}
+use mathlib.Core.List.{[]}
+use Rattle.model.specs.Checks.{isAligned, diskChecks, firstFailed}
+use Rattle.model.specs.declared.Checked.{Checked}
+use Rattle.model.specs.declared.Status.{Status}
+use Rattle.checks.proofs.DiskRange.{range-past, range-within, aligned-one, aligned-all}
 use Rattle.checks.proofs.disk_range.check_range.Statement.{statement}
 use Rattle.checks.proofs.disk_range.check_range.Tie as tie
+
+-- the range is on the disk: what is left is 29
+within : (e : tie.Else1) → let a = e .before .before .args in
+    cond (isAligned (a .params .sector) (a .start) && isAligned (a .params .sector) (a .count)) Checked.Passed (Checked.Refused 29 Status.Error)
+    ≡ firstFailed (diskChecks (a .params) (a .start) (a .count) [])
+within e = let a = e .before .before .args in sym (range-within (a .params) (a .start) (a .count) (sym (e .before .is-past .ensures) ∙ e .if1 .left))
 
 is-past-requires : tie.Need-is-past-requires
 is-past-requires c κs = search needs
@@ -15,60 +24,30 @@ returns c =
     let a = c .before .before .args in
     sym (range-past (a .params) (a .start) (a .count) (sym (c .before .is-past .ensures) ∙ c .if1 .taken))
 
+unit-of-requires : tie.Need-unit-of-requires
+unit-of-requires c κs = search needs
+
 returns-2 : tie.Need-returns-2
 returns-2 c =
     let e = c .before .before in
     let a = e .before .before .args in
-    sym (range-within (a .params) (a .start) (a .count) (sym (e .before .is-past .ensures) ∙ e .if1 .left) ∙ rw (aligned-all (a .params .sector) (a .start) (c .before .if2 .taken), aligned-all (a .params .sector) (a .count) (c .if3 .taken)))
-
-enum-told : tie.Need-enum-told
-enum-told c = search needs
+    let one = sym (c .before .unit-of .ensures) ∙ c .if2 .taken in
+    rw (aligned-one (a .params .sector) (a .start) one, aligned-one (a .params .sector) (a .count) one) at (within e)
 
 returns-3 : tie.Need-returns-3
-unfolding isAligned
 returns-3 c =
-    let e = c .before .before .before in
+    let e = c .before .before .before .before in
     let a = e .before .before .args in
-    sym (range-within (a .params) (a .start) (a .count) (sym (e .before .is-past .ensures) ∙ e .if1 .left) ∙ rw (c .enum-told .given .1, mod-one (a .start), mod-one (a .count)))
+    rw (aligned-all (a .params .sector) (a .start) (c .before .if3 .taken), aligned-all (a .params .sector) (a .count) (c .if4 .taken)) at (within e)
 
-enum-told-2 : tie.Need-enum-told-2
-enum-told-2 c = search needs
-
-check-whole-requires : tie.Need-check-whole-requires
-check-whole-requires c κs = search needs
+are-aligned-requires : tie.Need-are-aligned-requires
+are-aligned-requires c κs = search needs
 
 returns-4 : tie.Need-returns-4
-unfolding isAligned
-returns-4 c =
-    let e = c .before .before .before .before in
-    let a = e .before .before .args in
-    sym (range-within (a .params) (a .start) (a .count) (sym (e .before .is-past .ensures) ∙ e .if1 .left) ∙ rw (c .before .enum-told2 .given .1) (sym (c .check-whole .ensures)))
-
-enum-told-3 : tie.Need-enum-told-3
-enum-told-3 c = search needs
-
-check-whole-requires-2 : tie.Need-check-whole-requires-2
-check-whole-requires-2 c κs = search needs
+returns-4 c = rw (sym (c .before .are-aligned .ensures) ∙ c .if5 .taken) at (within (c .before .before .before .before .before))
 
 returns-5 : tie.Need-returns-5
-unfolding isAligned
-returns-5 c =
-    let e = c .before .before .before .before in
-    let a = e .before .before .args in
-    sym (range-within (a .params) (a .start) (a .count) (sym (e .before .is-past .ensures) ∙ e .if1 .left) ∙ rw (c .before .enum-told3 .given .1) (sym (c .check-whole2 .ensures)))
-
-enum-told-4 : tie.Need-enum-told-4
-enum-told-4 c = search needs
-
-check-whole-requires-3 : tie.Need-check-whole-requires-3
-check-whole-requires-3 c κs = search needs
-
-returns-6 : tie.Need-returns-6
-unfolding isAligned
-returns-6 c =
-    let e = c .before .before .before .before in
-    let a = e .before .before .args in
-    sym (range-within (a .params) (a .start) (a .count) (sym (e .before .is-past .ensures) ∙ e .if1 .left) ∙ rw (c .before .enum-told4 .given .1) (sym (c .check-whole3 .ensures)))
+returns-5 c = rw (sym (c .before .are-aligned .ensures) ∙ c .if5 .left) at (within (c .before .before .before .before .before))
 
 pub check-range-spec : {M : Type 1} → statement M
 check-range-spec =
@@ -76,15 +55,9 @@ check-range-spec =
     (tie.spec
     is-past-requires
     returns
+    unit-of-requires
     returns-2
-    enum-told
     returns-3
-    enum-told-2
-    check-whole-requires
+    are-aligned-requires
     returns-4
-    enum-told-3
-    check-whole-requires-2
-    returns-5
-    enum-told-4
-    check-whole-requires-3
-    returns-6)
+    returns-5)
