@@ -38,7 +38,7 @@ extern "C" {
  * and the last, and makes no other call when one of them is not the header's: the header and the archive are then not
  * of one release, or not built for the same memory.
  */
-#define KH_VERSION 600 /* 0.6.0 */
+#define KH_VERSION 700 /* 0.7.0 */
 uint32_t kh_version(void);
 uint32_t kh_memory_words(void);
 uint32_t kh_guest_words(void);
@@ -112,7 +112,7 @@ enum kh_node {
     KH_NODE_BARRIER = 2,         /* feature-barrier: "0" or "1"; absent means 0, here and in the next three */
     KH_NODE_FLUSH = 3,           /* feature-flush-cache */
     KH_NODE_DISCARD = 4,         /* feature-discard */
-    KH_NODE_DISCARD_SECURE = 5,  /* discard-secure */
+    KH_NODE_DISCARD_SECURE = 5,  /* discard-secure; where it is 0, a discard's flag is ignored */
     KH_NODE_SECTOR_SIZE = 6,     /* 512, 1024, 2048 or 4096; must be there */
     KH_NODE_SECTORS = 7,         /* of 512 bytes, 0 to 2^64 - 1; must be there */
     KH_NODE_PROTOCOL = 8,        /* "x86_64-abi", also when absent, or "x86_32-abi": enum kh_abi */
@@ -157,21 +157,20 @@ enum kh_operation {
     KH_DISCARD = 5
 };
 
-/* Why a guest's request was answered at once: the first check that it failed. */
+/* Why a guest's request was answered at once: the first check that it failed. 23 is withdrawn and never given. */
 enum kh_reason {
-    KH_UNKNOWN_OPERATION = 21, /* status not supported, as with 22 and 23; error with all others */
+    KH_UNKNOWN_OPERATION = 21, /* status not supported, as with 22; error with all others */
     KH_FEATURE_OFF = 22,       /* the feature of a barrier, flush or discard is 0 */
-    KH_SECURE_OFF = 23,        /* secure discard with discard-secure 0 */
     KH_READ_ONLY = 24,         /* write, barrier or discard in mode r */
     KH_WRONG_AMOUNT = 25,      /* number of segments not allowed for the operation, or a discard of 0 sectors */
-    KH_WRONG_SEGMENT = 26,     /* a segment without first <= last <= 7 */
-    KH_NOT_GRANTED = 27,       /* a frame not granted as needed: a read needs KH_GRANT_READ_WRITE, others either */
+    KH_WRONG_SEGMENT = 26,     /* a segment whose first is above its last, or its last above 7 */
+    KH_NOT_GRANTED = 27,       /* a frame without its grant: a read takes KH_GRANT_READ_WRITE, others either */
     KH_PAST_END = 28,          /* start + count above the node sectors */
     KH_UNALIGNED = 29          /* start, count, or where a segment begins or ends, no multiple of sector-size / 512 */
 };
 
-/* A response's status, as on the ring. Answers of kh_turn and kh_complete hold its magnitude, those of kh_guest_collect its
-   16 bits: kh_read_collected gives it as a number. */
+/* A response's status, as on the ring. Answers of kh_turn and kh_complete hold its magnitude, those of kh_guest_collect
+   its 16 bits: kh_read_collected gives it as a number. */
 enum kh_status { KH_OKAY = 0, KH_ERROR = -1, KH_NOT_SUPPORTED = -2 };
 
 /* The result of kh_complete that gives the status not supported (-EOPNOTSUPP). */
@@ -186,7 +185,7 @@ enum kh_turn_word {
     KH_TURN_OPERATION = 4,
     KH_TURN_START = 5,
     KH_TURN_COUNT = 6,
-    KH_TURN_SECURE = 7, /* 0 or 1 */
+    KH_TURN_SECURE = 7, /* 1: a discard with flag bit 0 set, and discard-secure is 1; else 0 */
     KH_TURN_EXTENT_COUNT = 8,
     KH_TURN_REASON = 9,  /* answered, to KH_TURN_NOTIFY */
     KH_TURN_STATUS = 10, /* magnitude: 1 or 2 */
@@ -321,7 +320,7 @@ enum kh_request_word {
     KH_REQUEST_SEGMENTS = 8 /* segment i at KH_REQUEST_SEGMENTS + KH_SEGMENT_WORDS * i, i < KH_SEGMENTS */
 };
 #define KH_SEGMENTS       11 /* segments that a request can have */
-#define KH_DISCARD_SECURE 1  /* bit 0 of the flag */
+#define KH_DISCARD_SECURE 1  /* bit 0 of the flag; a backend whose discard-secure is 0 ignores it */
 
 /* Words of a segment. */
 enum kh_segment_word { KH_SEGMENT_FRAME = 0, KH_SEGMENT_FIRST = 1, KH_SEGMENT_LAST = 2 };
@@ -344,8 +343,9 @@ enum kh_collect_word {
  * Puts a request, which is outstanding from then on: all KH_SLOT_BYTES bytes of its slot are written, those that it
  * doesn't use with zeros, and req_prod becomes the guest's index of the next. No other byte of the page changes.
  *
- * `page` is KH_GUEST_PAGE_BYTES long. `request` has KH_REQUEST_WORDS words (kh_write_request writes them from a struct),
- * `answer` has KH_PUT_WORDS: whether the backend is to be notified, exactly when req_event is the new req_prod.
+ * `page` is KH_GUEST_PAGE_BYTES long. `request` has KH_REQUEST_WORDS words (kh_write_request writes them from a
+ * struct), `answer` has KH_PUT_WORDS: whether the backend is to be notified, exactly when req_event is the new
+ * req_prod.
  *
  * Refusals: 1, 31, 32, 33. A request that is put can still be answered with a reason that is up to the disk, 22 to 24
  * and 27 to 29.
@@ -356,8 +356,8 @@ uint32_t kh_guest_put(kh_guest *guest, uint8_t *page, size_t page_bytes, const u
  * Collects the next response, and its request is outstanding no more; the page stays. When there is none, rsp_event
  * becomes the guest's index + 1, so that the next response notifies, and that is the only change.
  *
- * `page` is KH_GUEST_PAGE_BYTES long. `answer` has KH_COLLECT_WORDS words, and all of them are written (kh_read_collected
- * gives them as a struct). A response's status and padding are not judged.
+ * `page` is KH_GUEST_PAGE_BYTES long. `answer` has KH_COLLECT_WORDS words, and all of them are written
+ * (kh_read_collected gives them as a struct). A response's status and padding are not judged.
  *
  * Refusals: 1, 34, 35. A page that is refused with 34 or 35 was written by a backend that doesn't keep to its half.
  */
@@ -415,7 +415,7 @@ typedef struct {
     uint32_t operation; /* enum kh_operation */
     uint64_t start;     /* first sector on the disk; 0 for a flush and an empty barrier */
     uint64_t count;     /* sectors; 0 for a flush and an empty barrier */
-    bool secure;        /* of a discard */
+    bool secure;        /* of a discard that asked for it, and discard-secure is 1 */
     uint32_t extent_count;
     kh_extent extents[KH_EXTENTS];
 } kh_plan;
@@ -436,6 +436,23 @@ typedef struct {
     int32_t status; /* enum kh_status */
     bool notify;    /* the guest is to be notified */
 } kh_completed;
+
+/* When a reason is given, in a few words, for logs and tables; 23 reads "withdrawn". */
+static inline const char *kh_reason_text(uint32_t reason) {
+    static const char *const texts[] = {
+        "unknown operation",
+        "an operation whose feature the disk does not have",
+        "withdrawn",
+        "a request that writes, on a read-only disk",
+        "a wrong number of segments, or nothing to discard",
+        "a segment that does not lie in its frame",
+        "a frame without the grant that it takes",
+        "past the end of the disk",
+        "not in whole sectors of the disk",
+    };
+    bool known = reason >= KH_UNKNOWN_OPERATION && reason <= KH_UNALIGNED;
+    return known ? texts[reason - KH_UNKNOWN_OPERATION] : "no reason";
+}
 
 /* Extent i of a turn's answer, i < KH_EXTENTS. */
 static inline kh_extent kh_read_extent(const uint64_t *answer, size_t i) {

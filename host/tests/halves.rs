@@ -13,8 +13,8 @@ use kernelharp::{Completion, Meter};
 use second::{Backend, Guest};
 use tests::{faulty, usual_sheet_of, Ask};
 
-/// The guest's port is 3, which is the seed modulo 8.
-const SEED: u64 = 0x6861_6C76_6573 / 8 * 8 + 3;
+/// The guest's port is 3, which is the seed modulo 8. Its disk has discards.
+const SEED: u64 = 0x6861_6C76_6573 / 8 * 8 + 91;
 const PORT: usize = 3;
 
 fn slot_at(index: u32) -> usize {
@@ -209,6 +209,8 @@ enum BackendFlaw {
     WrongStart,
     /// Plans another frame.
     WrongFrame,
+    /// Plans discards the other way, secure or plain.
+    WrongMark,
     /// Finds no work.
     Idle,
     /// Finds an overrun in a ring that is full.
@@ -259,6 +261,7 @@ impl FlawedBackend {
             BackendFlaw::WrongFrame if answer[turn::EXTENT_COUNT] > 1 => {
                 answer[turn::EXTENTS + 4] ^= 1;
             }
+            BackendFlaw::WrongMark if answer[turn::OPERATION] == 5 => answer[turn::SECURE] ^= 1,
             BackendFlaw::Overrun => {
                 *answer = [0; TURN_WORDS];
                 answer[turn::KIND] = kind::OVERRUN;
@@ -359,6 +362,7 @@ fn flawed_backends_break_the_claim() {
         (BackendFlaw::WrongStatus, "answered "),
         (BackendFlaw::WrongStart, "planned "),
         (BackendFlaw::WrongFrame, "planned "),
+        (BackendFlaw::WrongMark, "planned "),
         (BackendFlaw::Idle, "an idle turn"),
         (BackendFlaw::Overrun, "an overrun"),
     ];

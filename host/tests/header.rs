@@ -181,6 +181,22 @@ fn refusals_and_reasons() {
     same_names(cases("kh_reason"), rust.map(|it| (it, it as i64)));
 }
 
+/// The texts of `kh_reason_text`, in its order, are those of the numbers 21 to 29, and beside them it has
+/// that of a number which is no reason.
+#[test]
+fn texts_of_reasons() {
+    let begin = HEADER.find("*kh_reason_text(").expect("a function");
+    let end = HEADER[begin..].find("\n}").expect("its end");
+    let lines = HEADER[begin..begin + end].lines().map(str::trim);
+    let (texts, others): (Vec<&str>, Vec<&str>) = lines.partition(|line| line.starts_with('"'));
+    let due: Vec<String> = (21..=29)
+        .map(|it| format!("{:?},", Reason::text(it)))
+        .collect();
+    assert_eq!(texts, due);
+    let no_reason = format!(": {:?};", Reason::text(30));
+    assert!(others.last().is_some_and(|line| line.ends_with(&no_reason)));
+}
+
 /// A Rattle source.
 macro_rules! source {
     ($path:literal) => {

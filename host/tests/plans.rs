@@ -5,7 +5,7 @@ use generate::turn_words;
 use kernelharp::layout::Abi;
 use kernelharp::words::{extent, kind, turn, TURN_WORDS};
 use second::{Extent, Operation, Plan, Status, Turned};
-use tests::{full_sheet, usual_sheet_of, with_protocol, Ask, Bench};
+use tests::{full_sheet, sheet, usual_sheet_of, with_protocol, Ask, Bench};
 
 /// The plan of a start on port 0, which leaves the pages.
 fn started(abi: Abi, ask: &Ask) -> Plan {
@@ -68,6 +68,33 @@ fn plans_without_extents() {
         assert_eq!(plan(&Ask::discard(0xFE, 77, 9)), (77, 9, false));
         assert_eq!(plan(&Ask::discard(0xFF, 77, 9)), (77, 9, true));
         assert_eq!(plan(&Ask::discard(0, far, many)), (far, many, false));
+    }
+}
+
+/// For a discard that asks for it, on a disk that has it, and for nothing else: an odd n asks for nothing.
+#[test]
+fn secure_mark() {
+    let disk = |discard_secure| {
+        let features = [(2, "1"), (3, "1"), (4, "1"), (5, discard_secure)];
+        sheet(&[&[(1, "w")], &features[..], &[(6, "512"), (7, "2008")]].concat())
+    };
+    for (text, has_it) in [("0", false), ("1", true)] {
+        for abi in Abi::ALL {
+            let mut bench = Bench::open(&with_protocol(&disk(text), abi));
+            let mut mark = |ask: Ask| {
+                let plan = bench.serve(&ask).unwrap();
+                bench.complete(plan.port, plan.tag, plan.serial, 0).unwrap();
+                plan.secure
+            };
+            for flag in 0..=255 {
+                let due = has_it && flag % 2 == 1;
+                assert_eq!(mark(Ask::discard(flag, 0, 8)), due, "{text}, flag {flag}");
+            }
+            for operation in 0..3 {
+                assert!((1..=11).all(|n| !mark(Ask::of(operation, n, 0, 0, 7))));
+            }
+            assert!(!mark(Ask::of(2, 0, 0, 0, 7)) && !mark(Ask::of(3, 0, 0, 0, 7)));
+        }
     }
 }
 

@@ -1,5 +1,5 @@
 //! Reasons 21 to 29, each on both sides of its line and before those that come later (rules 8.21 to 8.29),
-//! in both layouts.
+//! in both layouts. 23 is withdrawn: nothing gets it.
 
 use kernelharp::layout::Abi;
 use second::Status;
@@ -52,21 +52,58 @@ fn reason_22() {
         assert_eq!(on(&off(node, "r"), &ask), 22, "node {node}");
         assert_eq!(usual(&ask), 0);
     }
-    // 22 before 23.
-    let neither = sheet(&[(1, "w"), (6, "512"), (7, "2008")]);
-    assert_eq!(on(&neither, &Ask::discard(1, 0, 8)), 22);
 }
 
+/// What becomes of a discard with each flag: the secure mark of its plan, or the reason.
+fn discards(disk: &[u8], start: u64, count: u64) -> Vec<Result<bool, u32>> {
+    let [ends, others] = Abi::ALL.map(|abi| {
+        let mut bench = Bench::open(&with_protocol(disk, abi));
+        let end = |flag| {
+            let plan = bench.serve(&Ask::discard(flag, start, count));
+            let plan = plan.map_err(|reason| reason as u32)?;
+            assert_eq!((plan.start, plan.count), (start, count));
+            let done = bench.complete(plan.port, plan.tag, plan.serial, 0);
+            assert_eq!(done.map(|done| done.status), Ok(Status::Okay));
+            Ok(plan.secure)
+        };
+        (0..=255).map(end).collect::<Vec<_>>()
+    });
+    assert_eq!(ends, others, "64-bit and 32-bit");
+    ends
+}
+
+/// No discard gets it. Whatever its flag and the disk's discard-secure, it starts, or it fails the same
+/// check; and where discard-secure is 0 it starts as a plain one.
 #[test]
 fn reason_23() {
-    let not_secure = |mode| sheet(&[(1, mode), (4, "1"), (6, "512"), (7, "2008")]);
-    for flag in [1, 3, 255] {
-        assert_eq!(on(&not_secure("w"), &Ask::discard(flag, 0, 8)), 23);
-        assert_eq!(on(&not_secure("r"), &Ask::discard(flag, 0, 8)), 23);
-        assert_eq!(usual(&Ask::discard(flag, 0, 8)), 0);
-    }
-    for flag in [0, 2, 254] {
-        assert_eq!(on(&not_secure("w"), &Ask::discard(flag, 0, 8)), 0);
+    let cases = [
+        ("w", "1", 0, 2008, 0),
+        ("w", "1", 2000, 8, 0),
+        ("r", "0", 4, 0, 22),
+        ("w", "0", 0, 8, 22),
+        ("r", "1", 4, 0, 24),
+        ("r", "1", 0, 8, 24),
+        ("w", "1", 9999, 0, 25),
+        ("w", "1", 0, 0, 25),
+        ("w", "1", 2004, 8, 28),
+        ("w", "1", 2000, 16, 28),
+        ("w", "1", u64::MAX - 7, 8, 28),
+        ("w", "1", 4, 8, 29),
+        ("w", "1", 8, 1, 29),
+    ];
+    for (mode, discard, start, count, number) in cases {
+        for secure in [None, Some("0"), Some("1")] {
+            let mut entries = vec![(1, mode), (4, discard)];
+            entries.extend(secure.map(|text| (5, text)));
+            entries.extend([(6, "4096"), (7, "2008")]);
+            let due = |flag| match number {
+                0 => Ok(secure == Some("1") && flag % 2 == 1),
+                _ => Err(number),
+            };
+            let due: Vec<_> = (0..256).map(due).collect();
+            let came = discards(&sheet(&entries), start, count);
+            assert_eq!(came, due, "{entries:?}, start {start}, count {count}");
+        }
     }
 }
 

@@ -90,6 +90,8 @@ enum Flaw {
     RspProd,
     /// A count is invented.
     Count,
+    /// A discard is secure by its flag alone.
+    Secure,
     /// Notify is always yes.
     Notify,
     /// A refused call touches its answer.
@@ -257,6 +259,11 @@ impl Core for Flawed {
             (kind::STARTED, Flaw::Count) if answer[turn::EXTENT_COUNT] == 11 => {
                 answer[turn::COUNT] += 1;
             }
+            (kind::STARTED, Flaw::Secure) if answer[turn::OPERATION] == 5 => {
+                let abi = self.abis[port].unwrap_or_default();
+                let flag = page(&lent, port)[abi.slot_at(answer[turn::SERIAL] as u32) + 1];
+                answer[turn::SECURE] = u64::from(flag % 2);
+            }
             _ => {}
         }
         code
@@ -304,6 +311,7 @@ fn flawed_programs_are_found() {
         Flaw::LayoutKept,
         Flaw::RspProd,
         Flaw::Count,
+        Flaw::Secure,
         Flaw::Notify,
         Flaw::Answer,
         Flaw::Memory,

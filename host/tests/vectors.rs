@@ -62,7 +62,7 @@ fn layout(bits: &str) -> Abi {
 
 #[test]
 fn every_line_is_a_case() {
-    let kinds = ["sheet", "request", "index", "result", "response"];
+    let kinds = ["sheet", "request", "discard", "index", "result", "response"];
     let run: usize = kinds.iter().map(|kind| cases(kind).len()).sum();
     assert_eq!(run, lines(WORKED).len());
 }
@@ -76,6 +76,15 @@ fn sheets() {
         assert_eq!(due, format!("{mode} {} {}", disk.sector_size, disk.sectors));
         assert!(!(disk.barrier || disk.flush || disk.discard || disk.secure));
         assert_eq!(Bench::new().backend.open(0, &sheet), Ok(()));
+    }
+}
+
+/// What came of a request, in the words of the worked cases.
+fn came_of(served: &Result<Plan, Reason>) -> String {
+    match served {
+        Ok(plan) if plan.secure => format!("start {} secure", plan.count),
+        Ok(plan) => format!("start {}", plan.count),
+        Err(reason) => (*reason as u32).to_string(),
     }
 }
 
@@ -95,11 +104,23 @@ fn requests() {
         for abi in Abi::ALL {
             let mut bench = Bench::open(&with_protocol(&full_sheet(mode, size, sectors), abi));
             bench.grant(0, 5, number(grant));
-            let came = match bench.serve(&ask) {
-                Ok(plan) => format!("start {}", plan.count),
-                Err(reason) => (reason as u32).to_string(),
-            };
-            assert_eq!(came, due, "{given:?}, {abi:?}");
+            assert_eq!(came_of(&bench.serve(&ask)), due, "{given:?}, {abi:?}");
+        }
+    }
+}
+
+#[test]
+fn discards() {
+    for (given, due) in cases("discard") {
+        let &[mode, secure, size, sectors, flag, start, count] = &given[..] else {
+            panic!("seven words: {given:?}")
+        };
+        let nodes = [mode, "1", "1", "1", secure, size, sectors];
+        let disk = sheet(&(1..).zip(nodes).collect::<Vec<_>>());
+        let ask = Ask::discard(number(flag), number(start), number(count));
+        for abi in Abi::ALL {
+            let mut bench = Bench::open(&with_protocol(&disk, abi));
+            assert_eq!(came_of(&bench.serve(&ask)), due, "{given:?}, {abi:?}");
         }
     }
 }

@@ -12,7 +12,6 @@ static inline void check_plan(const kind *k, const kh_plan *plan) {
     CHECK_EQ(plan->operation, k->operation);
     CHECK_EQ(plan->start, is_empty ? 0 : k->start);
     CHECK_EQ(plan->count, count_of(k));
-    CHECK_EQ(plan->secure, k->operation == BLKIF_OP_DISCARD && k->n == BLKIF_DISCARD_SECURE);
     CHECK_EQ(plan->extent_count, k->operation == BLKIF_OP_DISCARD ? 0 : k->n);
     for (uint32_t i = 0; i < plan->extent_count; i++) {
         CHECK_EQ(plan->extents[i].frame, k->frame);
@@ -26,6 +25,7 @@ static inline void check_plan(const kind *k, const kh_plan *plan) {
 static inline void check_taken(const kh_turned *turned, uint32_t number) {
     CHECK_EQ(turned->reason, reason_due(turned->port, number));
     CHECK_EQ(turned->kind, turned->reason == 0 ? KH_STARTED : KH_ANSWERED);
+    CHECK_EQ(turned->plan.secure, turned->kind == KH_STARTED && is_secure(turned->port, number));
     if (turned->kind == KH_STARTED)
         check_plan(kind_of(turned->port, number), &turned->plan);
     else

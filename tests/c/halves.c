@@ -212,6 +212,7 @@ typedef struct {
     uint32_t answered[KH_SLOTS]; /* numbers, by the index of their responses */
     uint32_t of_tag[KH_TAGS];
     bool looking, heard; /* the host, and the guest, was notified since it last found nothing */
+    bool never_secure;   /* the disk's discard-secure is 0 */
 } pair;
 
 /* A host lends a copy, so the page goes there and back. */
@@ -258,7 +259,7 @@ static void turn_once(pair *p, host *h) {
         return;
     CHECK_EQ(turned.plan.operation, r.operation);
     CHECK_EQ(turned.plan.start, r.start);
-    CHECK_EQ(turned.plan.secure, r.operation == KH_DISCARD && r.flag == 1);
+    CHECK_EQ(turned.plan.secure, r.operation == KH_DISCARD && r.flag == 1 && !p->never_secure);
     CHECK_EQ(h->books[0].tags[turned.plan.tag].id, r.id);
     p->of_tag[turned.plan.tag] = p->taken++;
 }
@@ -333,10 +334,9 @@ static void together_with_the_backend(host *h) {
         printf("     %u requests put, taken, answered and collected, %u wraps\n", p.sent, p.sent / KH_SLOTS);
 }
 
-/* One request at a time, from a page of zeros: put, taken, answered, collected. */
-static void one_request_at_a_time(host *h) {
-    pair p = {.looking = true, .heard = true};
-    BEGIN(h, ALL_FEATURES);
+/* Requests one by one, from a page of zeros: put, taken, answered, collected. */
+static void one_by_one(host *h, bool never_secure) {
+    pair p = {.looking = true, .heard = true, .never_secure = never_secure};
     turn_once(&p, h);
     collect_one(&p, h);
     for (uint32_t i = 0; i < 10 * KH_SLOTS && running.failures == 0; i++) {
@@ -350,6 +350,17 @@ static void one_request_at_a_time(host *h) {
         collect_one(&p, h);
         CHECK(is_quiet(&p, h) && p.collected == i + 1);
     }
+}
+
+static void one_request_at_a_time(host *h) {
+    BEGIN(h, ALL_FEATURES);
+    one_by_one(h, false);
+}
+
+/* The guest can't tell: its secure discards are answered as on any other disk. */
+static void secure_flag_ignored(host *h) {
+    BEGIN(h, "1:w 2:1 3:1 4:1 5:0 6:512 7:2008");
+    one_by_one(h, true);
 }
 
 /* Whole rings at a time. */
@@ -371,9 +382,7 @@ static void full_rings(host *h) {
 
 int main(void) {
     static const test tests[] = {
-        TEST(side_by_side_with_xen_macros),
-        TEST(one_request_at_a_time),
-        TEST(full_rings),
+        TEST(side_by_side_with_xen_macros), TEST(one_request_at_a_time), TEST(secure_flag_ignored), TEST(full_rings),
         TEST(together_with_the_backend),
     };
     return run_tests(tests, COUNT_OF(tests));

@@ -23,13 +23,39 @@ static void check_names(void) {
     static const int calls[] = {KH_OK,        KH_WRONG_LENGTH, KH_NO_PORT, KH_NOT_CLOSED,
                                 KH_IS_CLOSED, KH_IN_FLIGHT,    KH_NOT_BUSY};
     static const int sheets[] = {KH_SHEET_SHAPE, KH_SHEET_NODES, KH_SHEET_TEXT, KH_SHEET_NUMBER, KH_SHEET_MISSING};
-    static const int reasons[] = {KH_UNKNOWN_OPERATION, KH_FEATURE_OFF, KH_SECURE_OFF, KH_READ_ONLY, KH_WRONG_AMOUNT,
-                                  KH_WRONG_SEGMENT,     KH_NOT_GRANTED, KH_PAST_END,   KH_UNALIGNED};
+    static const int unsupported[] = {KH_UNKNOWN_OPERATION, KH_FEATURE_OFF};
+    static const int errors[] = {KH_READ_ONLY,   KH_WRONG_AMOUNT, KH_WRONG_SEGMENT,
+                                 KH_NOT_GRANTED, KH_PAST_END,     KH_UNALIGNED};
     static const int guest[] = {KH_RING_FULL, KH_ID_OUTSTANDING, KH_BAD_REQUEST, KH_BAD_RSP_PROD, KH_NOT_OUTSTANDING};
     check_named(calls, COUNT_OF(calls), 0);
     check_named(sheets, COUNT_OF(sheets), 11);
-    check_named(reasons, COUNT_OF(reasons), 21);
+    check_named(unsupported, COUNT_OF(unsupported), 21);
+    check_named(errors, COUNT_OF(errors), 24);
     check_named(guest, COUNT_OF(guest), 31);
+}
+
+static void check_reason_texts(void) {
+    static const struct {
+        uint32_t number;
+        const char *text;
+    } lines[] = {
+        {0, "no reason"},
+        {20, "no reason"},
+        {21, "unknown operation"},
+        {22, "an operation whose feature the disk does not have"},
+        {23, "withdrawn"},
+        {24, "a request that writes, on a read-only disk"},
+        {25, "a wrong number of segments, or nothing to discard"},
+        {26, "a segment that does not lie in its frame"},
+        {27, "a frame without the grant that it takes"},
+        {28, "past the end of the disk"},
+        {29, "not in whole sectors of the disk"},
+        {30, "no reason"},
+        {UINT32_MAX, "no reason"},
+    };
+    size_t i;
+    for (i = 0; i < COUNT_OF(lines); i++)
+        check_at(__FILE__, __LINE__, lines[i].text, strcmp(kh_reason_text(lines[i].number), lines[i].text) == 0);
 }
 
 /* A sheet with its protocol named, "x86_32-abi" or another of ten letters. */
@@ -191,6 +217,7 @@ int main(void) {
     running.name = "header";
     check_archive_matches_header();
     check_names();
+    check_reason_texts();
     check_layouts();
     check_meter_places();
     check_calls();

@@ -9,6 +9,9 @@
 #include "check.h"
 #include "kernelharp.h"
 
+/* The number of a reason that is not given any more. */
+enum { WITHDRAWN = 23 };
+
 /* What was lent, in the order of the buffers below: to the backend's calls, then to a guest's (front.h has those). */
 enum area { MEMORY, RINGS, GRANTS, TURNED, COMPLETED, METERS, GUEST, PAGE, REQUEST, PUT_ANSWER, COLLECT_ANSWER, AREAS };
 
@@ -229,6 +232,7 @@ static inline void check_started(book *b, started request, const uint64_t *answe
     CHECK_EQ(answer[KH_TURN_TAG], lowest_free(b->busy));
     CHECK_EQ(answer[KH_TURN_SERIAL], b->taken);
     CHECK_EQ(answer[KH_TURN_OPERATION], request.operation);
+    CHECK(answer[KH_TURN_SECURE] <= (request.operation == KH_DISCARD));
     CHECK(answer[KH_TURN_EXTENT_COUNT] <= KH_EXTENTS);
     request.serial = b->taken++;
     request.expected = request.operation <= KH_BARRIER ? (int64_t)answer[KH_TURN_COUNT] : 0;
@@ -238,8 +242,8 @@ static inline void check_started(book *b, started request, const uint64_t *answe
 
 static inline void check_answered(host *h, uint32_t port, started request, const uint64_t *answer) {
     uint64_t reason = answer[KH_TURN_REASON];
-    CHECK(reason >= KH_UNKNOWN_OPERATION && reason <= KH_UNALIGNED);
-    CHECK_EQ(answer[KH_TURN_STATUS], reason <= KH_SECURE_OFF ? 2 : 1);
+    CHECK(reason >= KH_UNKNOWN_OPERATION && reason <= KH_UNALIGNED && reason != WITHDRAWN);
+    CHECK_EQ(answer[KH_TURN_STATUS], reason <= KH_FEATURE_OFF ? 2 : 1);
     h->books[port].taken++;
     expect_response(h, port, &request, answer[KH_TURN_STATUS], answer[KH_TURN_NOTIFY]);
 }

@@ -63,7 +63,7 @@ static void print_counts(void) {
     printf(" responses, 64-bit: %lu, 32-bit: %lu\n", responses[KH_BITS64], responses[KH_BITS32]);
 }
 
-/* All numbers came, kinds and reasons too, and responses of both layouts. */
+/* All numbers came, kinds and reasons too but for the one that is withdrawn, and responses of both layouts. */
 static void end_counts(void) {
     for (int call = 0; call < CALL_COUNT; call++)
         for (unsigned number = 0; number <= LAST_NUMBER; number++)
@@ -71,7 +71,7 @@ static void end_counts(void) {
     for (unsigned kind = 0; kind < COUNT_OF(kinds); kind++)
         CHECK(kinds[kind] > 0);
     for (unsigned reason = KH_UNKNOWN_OPERATION; reason < COUNT_OF(reasons); reason++)
-        CHECK(reasons[reason] > 0);
+        CHECK_EQ(reasons[reason] > 0, reason != WITHDRAWN);
     for (unsigned abi = 0; abi < COUNT_OF(responses); abi++)
         CHECK(responses[abi] > 0);
     if (placement != BEFORE_GUARD || running.failures > 0)
@@ -111,6 +111,28 @@ static void end_sizes(void) {
             printf("     %u-byte sectors: %lu started with segments, %lu refused with 29\n", 512U << size,
                    started_on[size], refused_on[size]);
     }
+}
+
+/* ---- discards that started: by bit 0 of the flag, and by the disk's discard-secure */
+
+static unsigned long discards[2][2];
+
+/* The mark is there where both are. */
+static void check_mark(const host *h) {
+    kh_turned turned = kh_read_turn(words(h, TURNED));
+    bool asks = slot_of(h, turned.port, turned.plan.serial)[1] % 2 != 0;
+    bool can = words_of_port(memory_of(h), turned.port)[SECURE] != 0;
+    if (turned.kind != KH_STARTED || turned.plan.operation != KH_DISCARD)
+        return;
+    CHECK_EQ(turned.plan.secure, asks && can);
+    discards[asks][can]++;
+}
+
+static void end_marks(void) {
+    CHECK(discards[0][0] > 0 && discards[0][1] > 0 && discards[1][0] > 0 && discards[1][1] > 0);
+    if (placement != BEFORE_GUARD || running.failures > 0)
+        printf("     discards that started: %lu secure, %lu with the flag ignored, %lu without it\n", discards[1][1],
+               discards[1][0], discards[0][0] + discards[0][1]);
 }
 
 /* ---- arguments */
@@ -259,8 +281,10 @@ static void call_turn(host *h) {
     const uint64_t *answer = words(h, TURNED);
     uint32_t number = TURN(h);
     count(h, CALL_TURN, number);
-    if (number == KH_OK)
+    if (number == KH_OK) {
         check_size(h);
+        check_mark(h);
+    }
     if (number == KH_OK && answer[KH_TURN_KIND] == KH_ANSWERED)
         count_response(h, answer[KH_TURN_PORT]);
 }
@@ -295,6 +319,7 @@ static void call_any(host *h) {
 static void any_calls_from_the_empty_backend(host *h) {
     begin_counts();
     begin_sizes();
+    memset(discards, 0, sizeof discards);
     for (int i = 0; i < CALLS; i++) {
         bool wrong;
         guest_writes(h, below(KH_PORTS));
@@ -306,6 +331,7 @@ static void any_calls_from_the_empty_backend(host *h) {
     }
     end_counts();
     end_sizes();
+    end_marks();
 }
 
 /* ---- calls on memory of any content, which is some backend too; no books can be kept of it */

@@ -17,7 +17,7 @@ enum disk { FULL, READ_ONLY, PLAIN, COARSE, DISKS };
 
 static const char *const disk_nodes[DISKS] = {
     "1:w 2:1 3:1 4:1 5:1 6:512 7:2008",
-    "1:r 2:1 3:1 4:1 5:1 6:512 7:2008",
+    "1:r 2:1 3:1 4:1 5:0 6:512 7:2008",
     "1:w 6:512 7:2008",
     "1:w 2:1 3:1 4:1 5:0 6:4096 7:2008",
 };
@@ -55,7 +55,9 @@ static const kind kinds[] = {
     {BLKIF_OP_WRITE_BARRIER, 0, 2009, 0, 0, 0, 0, {0, 24, 22, 0}},
     {BLKIF_OP_FLUSH_DISKCACHE, 0, 2009, 0, 0, 0, 0, {0, 0, 22, 0}},
     {BLKIF_OP_DISCARD, 0, 8, 0, 0, 0, 2000, {0, 24, 22, 0}},
-    {BLKIF_OP_DISCARD, BLKIF_DISCARD_SECURE, 0, 0, 0, 0, 96, {0, 24, 22, 23}},
+    {BLKIF_OP_DISCARD, BLKIF_DISCARD_SECURE, 0, 0, 0, 0, 96, {0, 24, 22, 0}},
+    {BLKIF_OP_DISCARD, 255, 8, 0, 0, 0, 2000, {0, 24, 22, 0}},
+    {BLKIF_OP_DISCARD, 255 - BLKIF_DISCARD_SECURE, 16, 0, 0, 0, 8, {0, 24, 22, 0}},
     {BLKIF_OP_RESERVED_1, 1, 0, FRAME, 0, 7, 0, {21, 21, 21, 21}},
     {BLKIF_OP_INDIRECT, 1, 0, FRAME, 0, 7, 0, {21, 21, 21, 21}},
     {255, 1, 0, FRAME, 0, 7, 0, {21, 21, 21, 21}},
@@ -64,13 +66,16 @@ static const kind kinds[] = {
     {BLKIF_OP_WRITE, 12, 0, FRAME, 0, 7, 0, {25, 24, 25, 25}},
     {BLKIF_OP_FLUSH_DISKCACHE, 1, 0, FRAME, 0, 7, 0, {25, 25, 22, 25}},
     {BLKIF_OP_DISCARD, 0, 8, 0, 0, 0, 0, {25, 24, 22, 25}},
+    {BLKIF_OP_DISCARD, BLKIF_DISCARD_SECURE, 8, 0, 0, 0, 0, {25, 24, 22, 25}},
     {BLKIF_OP_READ, 1, 0, FRAME, 3, 2, 0, {26, 26, 26, 26}},
     {BLKIF_OP_READ, 11, 0, FRAME, 0, 8, 0, {26, 26, 26, 26}},
     {BLKIF_OP_READ, 2, 0, FRAME_NOT_GRANTED, 0, 7, 0, {27, 27, 27, 27}},
     {BLKIF_OP_READ, 2, 0, FRAME_TO_READ, 0, 7, 0, {27, 27, 27, 27}},
     {BLKIF_OP_READ, 1, 2008, FRAME, 0, 7, 0, {28, 28, 28, 28}},
     {BLKIF_OP_WRITE, 1, UINT64_MAX, FRAME, 7, 7, 0, {28, 24, 28, 28}},
+    {BLKIF_OP_DISCARD, BLKIF_DISCARD_SECURE, 2000, 0, 0, 0, 9, {28, 24, 22, 28}},
     {BLKIF_OP_READ, 1, 4, FRAME, 0, 7, 0, {0, 0, 0, 29}},
+    {BLKIF_OP_DISCARD, BLKIF_DISCARD_SECURE, 4, 0, 0, 0, 8, {0, 24, 22, 29}},
     {BLKIF_OP_READ, 1, 8, FRAME, 0, 4, 0, {0, 0, 0, 29}},
     {BLKIF_OP_READ, 2, 8, FRAME, 0, 3, 0, {0, 0, 0, 29}},
     {BLKIF_OP_WRITE, 4, 8, FRAME, 4, 7, 0, {0, 24, 0, 29}},
@@ -102,6 +107,13 @@ static inline uint32_t reason_due(uint32_t port, uint32_t number) {
     return kind_of(port, number)->due[guest_of[port].disk];
 }
 
+/* Whether it is a secure discard, should it start: by Xen's header a disk without discard-secure ignores the flag. */
+static inline bool is_secure(uint32_t port, uint32_t number) {
+    const kind *k = kind_of(port, number);
+    bool asks = k->operation == BLKIF_OP_DISCARD && (k->n & BLKIF_DISCARD_SECURE) != 0;
+    return asks && strstr(disk_nodes[guest_of[port].disk], " 5:1") != NULL;
+}
+
 /* What the host says of the I/O of a started request. */
 static inline int32_t result_of(uint32_t port, uint32_t number) {
     const kind *k = kind_of(port, number);
@@ -117,7 +129,7 @@ static inline int16_t status_due(uint32_t port, uint32_t number) {
     uint32_t reason = reason_due(port, number);
     if (reason == 0)
         return ends[number % WAYS];
-    return reason <= 23 ? BLKIF_RSP_EOPNOTSUPP : BLKIF_RSP_ERROR;
+    return reason <= 22 ? BLKIF_RSP_EOPNOTSUPP : BLKIF_RSP_ERROR;
 }
 
 #endif

@@ -49,6 +49,15 @@ static void rule_15_04_started(host *h) {
     }
 }
 
+/* A flag that the disk ignores is not counted as not supported. */
+static void rule_15_04_secure_flag_ignored(host *h) {
+    BEGIN(h, "1:w 4:1 6:512 7:2008");
+    for (uint64_t n = 1; n <= 3; n++) {
+        CHECK_EQ(JUDGE(h, discard(1, 0, 8)), 0);
+        check_meter(h, 0, n, n, 0, 0);
+    }
+}
+
 static void rule_15_04_answered(host *h) {
     struct {
         const char *nodes;
@@ -57,7 +66,7 @@ static void rule_15_04_answered(host *h) {
     } lines[] = {
         {USUAL_NODES, transfer(4, 1, 0), 21},
         {USUAL_NODES, transfer(KH_FLUSH, 0, 0), 22},
-        {"1:w 4:1 6:512 7:2008", discard(1, 0, 8), 23},
+        {"1:w 4:1 6:512 7:2008", discard(1, 2001, 8), 28},
         {"1:r 6:512 7:2008", transfer(KH_WRITE, 1, 0), 24},
         {USUAL_NODES, transfer(KH_READ, 0, 0), 25},
         {USUAL_NODES, transfer(KH_READ, 2, 0), 26},
@@ -68,7 +77,7 @@ static void rule_15_04_answered(host *h) {
     lines[5].r.segments[1].last = 8;
     lines[6].r.segments[0].frame = 16;
     for (size_t i = 0; i < COUNT_OF(lines); i++) {
-        bool supported = lines[i].reason > 23;
+        bool supported = lines[i].reason > 22;
         BEGIN(h, lines[i].nodes);
         for (uint64_t n = 1; n <= 3; n++) {
             CHECK_EQ(JUDGE(h, lines[i].r), lines[i].reason);
@@ -411,6 +420,7 @@ int main(void) {
         TEST(rule_15_02_each_number_stops_at_the_top_by_itself),
         TEST(rule_15_03_ports_apart),
         TEST(rule_15_04_started),
+        TEST(rule_15_04_secure_flag_ignored),
         TEST(rule_15_04_answered),
         TEST(rule_15_04_completed),
         TEST(rule_15_04_idle),

@@ -40,20 +40,57 @@ static void reason_22_feature_off(host *h) {
         BEGIN(h, "1:r 6:512 7:0");
         CHECK_EQ(JUDGE(h, lines[i].r), 22); /* before 24 and 28 */
     }
-    CHECK_EQ(JUDGE(h, discard(1, 0, 0)), 22); /* before 23 and 25 */
+    CHECK_EQ(JUDGE(h, discard(1, 0, 0)), 22); /* before 24 and 25 */
 }
 
-static void reason_23_secure_off(host *h) {
-    const uint64_t *answer = words(h, TURNED);
-    for (int flag = 0; flag < 256; flag++) {
-        BEGIN(h, "1:w 4:1 6:512 7:2008");
-        CHECK_EQ(JUDGE(h, discard((uint8_t)flag, 0, 1)), flag & 1 ? 23 : 0);
-        BEGIN(h, "1:w 4:1 5:1 6:512 7:2008");
-        CHECK_EQ(JUDGE(h, discard((uint8_t)flag, 0, 1)), 0);
-        CHECK_EQ(answer[KH_TURN_SECURE], flag & 1);
+/* ---- 23, which is withdrawn: no flag of a discard keeps it from starting */
+
+/* Discards with none of the other faults, with each alone, and with later ones besides. */
+static const struct {
+    char mode, feature;
+    unsigned size;
+    uint64_t start, sectors;
+    uint32_t due; /* whatever the flag */
+} discards[] = {
+    {'w', '1', 512, 2000, 8, 0},   {'w', '1', 512, 0, 2008, 0},         {'w', '1', 4096, 8, 16, 0},
+    {'w', '0', 512, 2000, 8, 22},  {'r', '0', 4096, UINT64_MAX, 0, 22}, {'r', '1', 512, 2000, 8, 24},
+    {'r', '1', 4096, 4, 9999, 24}, {'r', '1', 4096, UINT64_MAX, 0, 24}, {'w', '1', 512, 2000, 0, 25},
+    {'w', '1', 4096, 2009, 0, 25}, {'w', '1', 512, 2000, 9, 28},        {'w', '1', 512, 1, UINT64_MAX, 28},
+    {'w', '1', 4096, 2004, 8, 28}, {'w', '1', 4096, 2004, 4, 29},       {'w', '1', 2048, 8, 6, 29},
+    {'w', '1', 1024, 7, 8, 29},
+};
+
+static void reason_23_withdrawn(host *h) {
+    static const struct {
+        const char *node;
+        int mask; /* of the flag: what makes the mark */
+    } secure[] = {{"", 0}, {" 5:0", 0}, {" 5:1", 1}};
+    char nodes[64];
+    for (size_t i = 0; i < COUNT_OF(discards) * COUNT_OF(secure); i++) {
+        size_t line = i / COUNT_OF(secure), node = i % COUNT_OF(secure);
+        uint32_t due = discards[line].due;
+        snprintf(nodes, sizeof nodes, "1:%c 4:%c%s 6:%u 7:2008", discards[line].mode, discards[line].feature,
+                 secure[node].node, discards[line].size);
+        BEGIN(h, nodes);
+        for (int flag = 0; flag < 256; flag++) {
+            CHECK_EQ(JUDGE(h, discard((uint8_t)flag, discards[line].start, discards[line].sectors)), due);
+            CHECK_EQ(words(h, TURNED)[KH_TURN_SECURE], due == 0 ? flag & secure[node].mask : 0);
+        }
     }
-    BEGIN(h, "1:r 4:1 5:0 6:512 7:2008");
-    CHECK_EQ(JUDGE(h, discard(1, 0, 0)), 23); /* before 24 and 25 */
+}
+
+/* Byte 1 is no flag then. */
+static void reason_23_of_no_other_operation(host *h) {
+    static const char *const disks[] = {ALL_FEATURES, "1:w 2:1 3:1 4:1 5:0 6:512 7:2008", "1:r 2:1 3:1 4:1 6:4096 7:8",
+                                        "1:w 5:1 6:512 7:2008", USUAL_NODES};
+    static const uint8_t operations[] = {KH_READ, KH_WRITE, KH_BARRIER, KH_FLUSH, 4, 6, 255};
+    for (size_t i = 0; i < COUNT_OF(disks) * COUNT_OF(operations); i++) {
+        BEGIN(h, disks[i / COUNT_OF(operations)]);
+        for (int n = 0; n < 256; n++) {
+            CHECK(JUDGE(h, transfer(operations[i % COUNT_OF(operations)], (uint8_t)n, 0)) != 23);
+            CHECK_EQ(words(h, TURNED)[KH_TURN_SECURE], 0);
+        }
+    }
 }
 
 static void reason_24_read_only(host *h) {
@@ -381,7 +418,8 @@ int main(void) {
     static const test tests[] = {
         TEST(reason_21_unknown_operation),
         TEST(reason_22_feature_off),
-        TEST(reason_23_secure_off),
+        TEST(reason_23_withdrawn),
+        TEST(reason_23_of_no_other_operation),
         TEST(reason_24_read_only),
         TEST(reason_25_segment_count),
         TEST(reason_25_discard_of_0_sectors),

@@ -178,14 +178,48 @@ static void plan_of_eleven_segments(host *h) {
     CHECK(!plan.secure);
 }
 
-static void plan_of_a_discard(host *h) {
+/* A discard of sectors 7 to 2007, served on a port and completed: whether it was secure. */
+static bool do_discard(host *h, uint32_t port, uint8_t flag) {
     kh_plan plan;
-    BEGIN(h, ALL_FEATURES);
-    post(h, 0, discard(1, 7, 2001));
-    CHECK_EQ(SERVE(h, 0), KH_STARTED);
+    post(h, port, discard(flag, 7, 2001));
+    CHECK_EQ(do_serve(h, port), KH_STARTED);
     plan = kh_read_plan(words(h, TURNED));
-    CHECK(plan.operation == KH_DISCARD && plan.start == 7 && plan.count == 2001 && plan.secure);
+    CHECK(plan.operation == KH_DISCARD && plan.start == 7 && plan.count == 2001);
     CHECK_EQ(plan.extent_count, 0);
+    CHECK_EQ(plan.secure, words(h, TURNED)[KH_TURN_SECURE]);
+    CHECK_EQ(do_finish(h), KH_OK);
+    return plan.secure;
+}
+
+#define DISCARDED(h, port, flag) MADE_HERE(do_discard(h, port, flag))
+
+#define SECURE_NODES "1:w 4:1 5:1 6:512 7:2008"
+#define PLAIN_NODES  "1:w 4:1 5:0 6:512 7:2008"
+
+/* It takes both for the mark: bit 0 of the flag, and discard-secure 1. */
+static void plan_of_a_discard(host *h) {
+    for (int flag = 0; flag < 256; flag++) {
+        BEGIN(h, SECURE_NODES);
+        CHECK_EQ(DISCARDED(h, 0, (uint8_t)flag), flag % 2);
+        BEGIN(h, PLAIN_NODES);
+        CHECK(!DISCARDED(h, 0, (uint8_t)flag));
+        BEGIN(h, "1:w 4:1 6:512 7:2008");
+        CHECK(!DISCARDED(h, 0, (uint8_t)flag));
+    }
+}
+
+/* Every second port can be secure, and at the next opening the others. */
+static void secure_by_the_port_and_its_opening(host *h) {
+    for (uint32_t opening = 0; opening < 4; opening++) {
+        for (uint32_t port = 0; port < KH_PORTS; port++) {
+            CHECK_EQ(OPEN_NODES(h, port, (port + opening) % 2 == 0 ? SECURE_NODES : PLAIN_NODES), KH_OK);
+            set_index(h, port, KH_REQ_PROD, 0);
+        }
+        for (uint32_t port = 0; port < KH_PORTS; port++) {
+            CHECK_EQ(DISCARDED(h, port, 255), (port + opening) % 2 == 0);
+            CHECK_EQ(CLOSE(h, port), KH_OK);
+        }
+    }
 }
 
 static void lowest_free_tag_comes_back(host *h) {
@@ -381,6 +415,7 @@ int main(void) {
         TEST(only_a_service_moves_the_pointer),
         TEST(plan_of_eleven_segments),
         TEST(plan_of_a_discard),
+        TEST(secure_by_the_port_and_its_opening),
         TEST(lowest_free_tag_comes_back),
         TEST(stale_completion_of_a_newer_request),
         TEST(results_where_8_is_expected),

@@ -327,19 +327,43 @@ static bool run_worked_sheet(host *h, const char *given, text *came) {
     return true;
 }
 
-/* MODE SECTOR-SIZE SECTORS GRANT OPERATION N START FIRST LAST = start COUNT, or the reason */
+/* The mode of a disk with every feature, and so many numbers. */
+static bool read_worked(const char *given, numbers *is, uint64_t *n, size_t count) {
+    *is = (numbers){.writable = given[0] == 'w', .barrier = 1, .flush = 1, .discard = 1, .secure = 1};
+    return strchr("rw", given[0]) != NULL && read_numbers(given + 1, n, count);
+}
+
+/* start COUNT, with `secure` behind it where it is, or the reason */
+static void serve_worked(host *h, const numbers *is, text *came) {
+    const uint64_t *answer = words(h, TURNED);
+    serve(h, is, FIRST_ID);
+    if (answer[KH_TURN_KIND] == KH_STARTED)
+        say(came, "start %" PRIu64 "%s", answer[KH_TURN_COUNT], answer[KH_TURN_SECURE] != 0 ? " secure" : "");
+    else
+        say(came, "%" PRIu64, answer[KH_TURN_REASON]);
+}
+
+/* MODE SECTOR-SIZE SECTORS GRANT OPERATION N START FIRST LAST */
 static bool run_worked_request(host *h, const char *given, text *came) {
-    numbers is = {.barrier = 1, .flush = 1, .discard = 1, .secure = 1, .writable = given[0] == 'w'};
+    numbers is;
     uint64_t n[8];
-    if (strchr("rw", given[0]) == NULL || !read_numbers(given + 1, n, COUNT_OF(n)))
+    if (!read_worked(given, &is, n, COUNT_OF(n)))
         return false;
     is.sector_size = n[0], is.sectors = n[1], is.operation = n[3], is.n = n[4], is.start = n[5];
     set_places(&is, (place){5, n[6], n[7], n[2]});
-    serve(h, &is, FIRST_ID);
-    if (words(h, TURNED)[KH_TURN_KIND] == KH_STARTED)
-        say(came, "start %" PRIu64, words(h, TURNED)[KH_TURN_COUNT]);
-    else
-        say(came, "%" PRIu64, words(h, TURNED)[KH_TURN_REASON]);
+    serve_worked(h, &is, came);
+    return true;
+}
+
+/* MODE DISCARD-SECURE SECTOR-SIZE SECTORS FLAG START COUNT */
+static bool run_worked_discard(host *h, const char *given, text *came) {
+    numbers is;
+    uint64_t n[6];
+    if (!read_worked(given, &is, n, COUNT_OF(n)))
+        return false;
+    is.secure = n[0], is.sector_size = n[1], is.sectors = n[2];
+    is.operation = KH_DISCARD, is.n = n[3], is.start = n[4], is.count = n[5];
+    serve_worked(h, &is, came);
     return true;
 }
 
@@ -412,8 +436,8 @@ static struct {
     runner *run;
     unsigned cases;
 } kinds[] = {
-    {"sheet ", run_worked_sheet, 0}, {"request ", run_worked_request, 0}, {"index ", run_index, 0},
-    {"result ", run_result, 0},      {"response ", run_response, 0},
+    {"sheet ", run_worked_sheet, 0}, {"request ", run_worked_request, 0}, {"discard ", run_worked_discard, 0},
+    {"index ", run_index, 0},        {"result ", run_result, 0},          {"response ", run_response, 0},
 };
 
 static bool run_worked(host *h, const char *given, text *came) {

@@ -2,6 +2,7 @@
  * The library with one fault put before or after its calls, named by the environment variable WRONG, to see that the
  * tests find it. Linked between a test and the archive (the linker's --wrap).
  */
+#include "wrong_23.h"
 #include "wrong_29.h"
 
 uint32_t __real_kh_open(kh_memory *memory, uint32_t port, const uint8_t *sheet, size_t sheet_bytes);
@@ -59,16 +60,27 @@ static uint32_t turn_by_112(kh_memory *memory, uint8_t *rings, const uint8_t *gr
     return number;
 }
 
-/* What the library would answer if every disk had 512-byte sectors. */
-static uint32_t try_with_512(const kh_memory *memory, const uint8_t *rings, const uint8_t *grants, size_t grants_bytes,
-                             uint64_t *answer) {
+/* What the library would answer, if every disk had 512-byte sectors where 29 is judged here. */
+static uint32_t try_turn(const kh_memory *memory, const uint8_t *rings, const uint8_t *grants, size_t grants_bytes,
+                         uint64_t *answer) {
     static kh_memory tried;
     static uint8_t pages[KH_RINGS_BYTES];
     tried = *memory;
     memcpy(pages, rings, sizeof pages);
-    for (uint64_t port = 0; port < KH_PORTS; port++)
+    for (uint64_t port = 0; is_29_judged_here() && port < KH_PORTS; port++)
         words_of_port(&tried, port)[SECTOR_SIZE] = 0;
     return __real_kh_turn(&tried, pages, sizeof pages, grants, grants_bytes, answer);
+}
+
+/* The slot that a port takes its next request from. */
+static uint8_t *next_slot(kh_memory *memory, uint8_t *rings, uint64_t port) {
+    uint32_t consumed = (uint32_t)words_of_port(memory, port)[CONSUMED];
+    return slot_of(rings + KH_RING_BYTES * port, kh_slot_bytes(abis[port]), consumed);
+}
+
+/* Where a slot of that port has its start; what it has of segments or of a discard's count lies behind. */
+static unsigned start_in(uint64_t port) {
+    return abis[port] == KH_BITS32 ? 12 : 16;
 }
 
 /* A turn with 29 judged here. Where it is due, the library finds a start past any end, and its 28 is said as 29. */
@@ -78,13 +90,13 @@ static uint32_t turn_by_own_29(kh_memory *memory, uint8_t *rings, const uint8_t 
     uint8_t *slot, *start_at, start[8];
     uint32_t number;
     bool refused;
-    if (try_with_512(memory, rings, grants, grants_bytes, seen) != KH_OK || !is_29_next(seen))
+    if (try_turn(memory, rings, grants, grants_bytes, seen) != KH_OK || !is_29_next(seen))
         return __real_kh_turn(memory, rings, KH_RINGS_BYTES, grants, grants_bytes, answer);
     port = seen[KH_TURN_PORT];
     kept = words_of_port(memory, port);
     size = kept[SECTOR_SIZE];
-    slot = slot_of(rings + KH_RING_BYTES * port, kh_slot_bytes(abis[port]), (uint32_t)kept[CONSUMED]);
-    start_at = slot + (abis[port] == KH_BITS32 ? 12 : 16);
+    slot = next_slot(memory, rings, port);
+    start_at = slot + start_in(port);
     memcpy(start, start_at, sizeof start);
     refused = is_29(slot, start_at, 1U << size);
     if (refused)
@@ -95,6 +107,50 @@ static uint32_t turn_by_own_29(kh_memory *memory, uint8_t *rings, const uint8_t 
     memcpy(start_at, start, sizeof start);
     if (refused)
         answer[KH_TURN_REASON] = KH_UNALIGNED;
+    return number;
+}
+
+/* A turn over a discard whose flag is ignored, with its disk, or its count of 0, taken for another. */
+static uint32_t turn_over_ignored(kh_memory *memory, uint8_t *rings, const uint8_t *grants, size_t grants_bytes,
+                                  const uint64_t *seen, uint64_t *answer) {
+    uint64_t port = seen[KH_TURN_PORT], *kept = words_of_port(memory, port);
+    uint64_t was[CONSUMED]; /* the words of the disk */
+    uint8_t *count_at = next_slot(memory, rings, port) + start_in(port) + 8;
+    bool is_filled = wrong("23_skips_25") && seen[KH_TURN_REASON] == KH_WRONG_AMOUNT;
+    memcpy(was, kept, sizeof was);
+    change_disk(kept, seen[KH_TURN_KIND] == KH_STARTED);
+    count_at[0] |= is_filled ? 8 : 0;
+    __real_kh_turn(memory, rings, KH_RINGS_BYTES, grants, grants_bytes, answer);
+    count_at[0] ^= is_filled ? 8 : 0;
+    memcpy(kept, was, sizeof was);
+    if (is_filled)
+        answer[KH_TURN_COUNT] = 0;
+    if (answer[KH_TURN_REASON] == KH_FEATURE_OFF && kept[DISCARD] == 1)
+        answer[KH_TURN_REASON] = 23;
+    if (wrong("23_refused_as_not_supported") && answer[KH_TURN_STATUS] == 1) {
+        answer[KH_TURN_STATUS] = 2;
+        last_response(rings, port)[10] = 0xFE;
+    }
+    return KH_OK;
+}
+
+/* A turn with the flag judged here. */
+static uint32_t turn_by_own_flag(kh_memory *memory, uint8_t *rings, const uint8_t *grants, size_t grants_bytes,
+                                 uint64_t *answer) {
+    uint64_t seen[KH_TURN_WORDS], port;
+    uint32_t number = try_turn(memory, rings, grants, grants_bytes, seen);
+    const uint8_t *slot;
+    if (number != KH_OK || seen[KH_TURN_KIND] == KH_IDLE || seen[KH_TURN_KIND] == KH_OVERRUN)
+        return __real_kh_turn(memory, rings, KH_RINGS_BYTES, grants, grants_bytes, answer);
+    port = seen[KH_TURN_PORT];
+    slot = next_slot(memory, rings, port);
+    if (is_flag_ignored(slot, words_of_port(memory, port)))
+        number = turn_over_ignored(memory, rings, grants, grants_bytes, seen, answer);
+    else
+        number = __real_kh_turn(memory, rings, KH_RINGS_BYTES, grants, grants_bytes, answer);
+    if (answer[KH_TURN_KIND] == KH_STARTED)
+        answer[KH_TURN_SECURE] =
+            is_marked(slot, words_of_port(memory, wrong("23_mark_by_port_0") ? 0 : port)[SECURE] == 1);
     return number;
 }
 
@@ -169,6 +225,8 @@ uint32_t __wrap_kh_turn(kh_memory *memory, uint8_t *rings, size_t rings_bytes, c
         number = turn_by_112(memory, rings, grants, grants_bytes, answer);
     else if (is_29_judged_here() && rings_bytes == KH_RINGS_BYTES)
         number = turn_by_own_29(memory, rings, grants, grants_bytes, answer);
+    else if (is_23_judged_here() && rings_bytes == KH_RINGS_BYTES)
+        number = turn_by_own_flag(memory, rings, grants, grants_bytes, answer);
     else
         number = __real_kh_turn(memory, rings, rings_bytes, grants, grants_bytes, answer);
     if (wrong("refused_turn_writes") && number != KH_OK)

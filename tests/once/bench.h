@@ -21,11 +21,12 @@ extern const struct layout layouts[]; /* by enum kh_abi */
 enum state { CLOSED, OPEN, BROKEN };
 
 /* What the turn's answers tell of a port: C and R (rule 4.2) among it. And of its disk, the sectors of 512 bytes in one
- * of its own. */
+ * of its own, and whether its discard-secure is 1. */
 struct book {
     enum state state;
     enum kh_abi abi;
     unsigned unit;
+    bool secure;
     uint32_t taken, answered;
 };
 

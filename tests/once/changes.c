@@ -46,6 +46,17 @@ static void replace_slot(unsigned port, changer *with) {
     }
 }
 
+/* Another flag of a discard, or number of segments: with bit 0 changed, with another bit, with all. */
+static void change_byte_1(unsigned port, changer *with) {
+    static const uint8_t bits[] = {1, 2, 255};
+    unsigned at = slot_at(port, bench.ports[port].taken) + 1;
+    for (unsigned i = 0; i < sizeof bits; i++) {
+        uint8_t byte = rings[at] ^ bits[i];
+        struct change change = {"byte 1", at, 1, false, &byte};
+        with(&change);
+    }
+}
+
 /* Another part of its frame for a segment, at both ends of the request and between: on the boundaries of every disk, of
    some, of none, and no part at all. */
 static void move_segments(unsigned port, changer *with) {
@@ -108,6 +119,7 @@ void each_change(const struct scenario *scenario, changer *with) {
     move_others(port, with);
     if (scenario->expect.kind == STARTED || scenario->expect.kind == ANSWERED) {
         replace_slot(port, with);
+        change_byte_1(port, with);
         move_segments(port, with);
     }
     flip("slot flipped", slot_at(port, bench.ports[port].taken), layout_of(port)->slot_bytes, with);

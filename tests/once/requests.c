@@ -7,9 +7,11 @@ static const struct disk full = {"w", "1", "1", "1", "1", "512", "2008"};
 static const struct disk plain = {"w", "0", "0", "0", "0", "512", "2008"};
 static const struct disk unsecured = {"w", "1", "1", "1", "0", "512", "2008"};
 static const struct disk locked = {"r", "1", "1", "1", "1", "512", "2008"};
+static const struct disk locked_unsecured = {"r", "1", "1", "1", "0", "512", "2008"};
 static const struct disk by_2 = {"w", "1", "1", "1", "1", "1024", "2008"};
 static const struct disk by_4 = {"w", "1", "1", "1", "1", "2048", "2008"};
 static const struct disk by_8 = {"w", "1", "1", "1", "1", "4096", "2008"};
+static const struct disk by_8_unsecured = {"w", "1", "1", "1", "0", "4096", "2008"};
 
 /* Frames below READABLE may be read and written, those below UNGRANTED read, those below PAST nothing; there are no
  * more. */
@@ -56,21 +58,30 @@ const struct request requests[] = {
     {"started: discard, 2048-byte sectors", &by_4, DISCARD, 0, 4, {0, 0, 0}, 8, 0, 0, 0},
     {"started: discard, 4096-byte sectors", &by_8, DISCARD, 0, 8, {0, 0, 0}, 16, 0, 0, 0},
     {"started: secure discard", &full, DISCARD, 1, 8, {0, 0, 0}, 1, 0, 0, 0},
+    {"started: secure discard, flag 255", &full, DISCARD, 255, 8, {0, 0, 0}, 1, 0, 0, 0},
+    {"started: discard, flag 254", &full, DISCARD, 254, 8, {0, 0, 0}, 1, 0, 0, 0},
+    {"started: secure discard, 4096-byte sectors", &by_8, DISCARD, 1, 8, {0, 0, 0}, 16, 0, 0, 0},
+    {"started: discard, discard-secure 0", &unsecured, DISCARD, 0, 0, {0, 0, 0}, 8, 0, 0, 0},
+    {"started: discard, flag 1 ignored", &unsecured, DISCARD, 1, 0, {0, 0, 0}, 8, 0, 0, 0},
+    {"started: discard, flag 254 ignored", &unsecured, DISCARD, 254, 0, {0, 0, 0}, 8, 0, 0, 0},
+    {"started: discard, flag 255 ignored", &unsecured, DISCARD, 255, 0, {0, 0, 0}, 2008, 0, 0, 0},
+    {"started: discard by 8, flag 1 ignored", &by_8_unsecured, DISCARD, 1, 8, {0, 0, 0}, 16, 0, 0, 0},
     {"answered 21: operation 4", &full, 4, 1, 0, {5, 0, 7}, 0, 21, 2, 0},
     {"answered 21: operation 255", &full, 255, 255, 0, {5, 0, 7}, 0, 21, 2, 0},
     {"answered 22: barrier", &plain, BARRIER, 1, 0, {5, 0, 7}, 0, 22, 2, 0},
     {"answered 22: flush", &plain, FLUSH, 0, 0, {0, 0, 0}, 0, 22, 2, 0},
     {"answered 22: discard", &plain, DISCARD, 1, 0, {0, 0, 0}, 8, 22, 2, 0},
-    {"answered 23: secure discard", &unsecured, DISCARD, 1, 0, {0, 0, 0}, 8, 23, 2, 0},
     {"answered 24: write", &locked, WRITE, 12, 0, {5, 0, 7}, 0, 24, 1, 0},
     {"answered 24: barrier", &locked, BARRIER, 0, 0, {0, 0, 0}, 0, 24, 1, 0},
     {"answered 24: discard", &locked, DISCARD, 0, 0, {0, 0, 0}, 8, 24, 1, 0},
+    {"answered 24: discard, flag 1 ignored", &locked_unsecured, DISCARD, 1, 0, {0, 0, 0}, 8, 24, 1, 0},
     {"answered 25: read, 0 segments", &full, READ, 0, 0, {0, 0, 0}, 0, 25, 1, 0},
     {"answered 25: read, 12 segments", &full, READ, 12, 0, {5, 0, 7}, 0, 25, 1, 0},
     {"answered 25: write, 255 segments", &full, WRITE, 255, 0, {5, 0, 7}, 0, 25, 1, 0},
     {"answered 25: barrier, 12 segments", &full, BARRIER, 12, 0, {5, 0, 7}, 0, 25, 1, 0},
     {"answered 25: flush, 1 segment", &full, FLUSH, 1, 0, {5, 0, 7}, 0, 25, 1, 0},
     {"answered 25: discard, 0 sectors", &full, DISCARD, 0, 0, {0, 0, 0}, 0, 25, 1, 0},
+    {"answered 25: discard, flag 1 ignored", &unsecured, DISCARD, 1, 0, {0, 0, 0}, 0, 25, 1, 0},
     {"answered 26: first above last", &full, READ, 11, 0, {5, 3, 2}, 0, 26, 1, 0},
     {"answered 26: last above 7", &full, WRITE, 1, 0, {5, 0, 8}, 0, 26, 1, 0},
     {"answered 26: behind a segment by 2", &by_2, READ, 11, 2, {5, 3, 2}, 0, 26, 1, 0, off_2},
@@ -81,6 +92,7 @@ const struct request requests[] = {
     {"answered 28: read past the end", &full, READ, 11, 1921, {5, 0, 7}, 0, 28, 1, 0},
     {"answered 28: start at 2^64 - 1", &full, READ, 1, UINT64_MAX, {5, 7, 7}, 0, 28, 1, 0},
     {"answered 28: discard past the end", &full, DISCARD, 1, 2008, {0, 0, 0}, 1, 28, 1, 0},
+    {"answered 28: discard, flag 1 ignored", &unsecured, DISCARD, 1, 2001, {0, 0, 0}, 8, 28, 1, 0},
     {"answered 28: two halves by 8", &by_8, READ, 2, 2008, {5, 4, 7}, 0, 28, 1, 0, half},
     {"answered 29: start by 2", &by_2, WRITE, 1, 1, {5, 0, 7}, 0, 29, 1, 0},
     {"answered 29: count by 4", &by_4, READ, 2, 4, {5, 0, 2}, 0, 29, 1, 0},
@@ -110,6 +122,7 @@ const struct request requests[] = {
     {"answered 29: discard by 2", &by_2, DISCARD, 0, 2, {0, 0, 0}, 3, 29, 1, 0},
     {"answered 29: discard by 4", &by_4, DISCARD, 0, 2, {0, 0, 0}, 4, 29, 1, 0},
     {"answered 29: discard by 8", &by_8, DISCARD, 0, 8, {0, 0, 0}, 4, 29, 1, 0},
+    {"answered 29: discard by 8, flag 1 ignored", &by_8_unsecured, DISCARD, 1, 8, {0, 0, 0}, 4, 29, 1, 0},
 };
 
 const unsigned request_count = sizeof requests / sizeof *requests;
@@ -148,7 +161,8 @@ void open_port(unsigned port, enum kh_abi abi, const struct disk *disk) {
     uint32_t refusal = kh_open(&bench.memory, port, sheet, bytes);
     if (refusal != KH_OK)
         fail("open of port %u refused: %u", port, refusal);
-    bench.ports[port] = (struct book){.state = OPEN, .abi = abi, .unit = unit_of(disk)};
+    bench.ports[port] =
+        (struct book){.state = OPEN, .abi = abi, .unit = unit_of(disk), .secure = disk->secure[0] == '1'};
     store32(rings + header_at(port, REQ_PROD), 0);
 }
 
@@ -183,4 +197,8 @@ void write_request(uint8_t *slot, const struct layout *layout, uint32_t index, c
 void put_request(unsigned port, uint32_t index, const struct request *request) {
     write_request(rings + slot_at(port, index), layout_of(port), index, request);
     store32(rings + header_at(port, REQ_PROD), index + 1);
+}
+
+bool is_secure(unsigned port, const struct request *request) {
+    return request->operation == DISCARD && request->n % 2 != 0 && bench.ports[port].secure;
 }

@@ -43,6 +43,8 @@ extern const struct request dummy, held;
 void grant_frames(void);
 void open_port(unsigned port, enum kh_abi abi, const struct disk *disk);
 void put_request(unsigned port, uint32_t index, const struct request *request);
+/* Whether its plan is a secure discard, should it start on that port. */
+bool is_secure(unsigned port, const struct request *request);
 /* A request's bytes in a slot of that layout, its id made from the index. */
 void write_request(uint8_t *slot, const struct layout *layout, uint32_t index, const struct request *request);
 

@@ -174,6 +174,8 @@ bool is_expected(const struct scenario *scenario, const struct outcome *outcome)
         return is_completed(expect, answer);
     if (answer[KH_TURN_KIND] != expect->kind || answer[KH_TURN_PORT] != expect->port)
         return false;
+    if (expect->kind == STARTED)
+        return answer[KH_TURN_SECURE] == expect->secure;
     return expect->kind != ANSWERED ||
            (answer[KH_TURN_REASON] == expect->reason && answer[KH_TURN_STATUS] == expect->status &&
             answer[KH_TURN_NOTIFY] == expect->notify);

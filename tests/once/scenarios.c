@@ -40,6 +40,7 @@ static void turn_on(const char *name, const struct place *place, const struct re
         return;
     prepare(place, abi, request->disk);
     uint32_t taken = bench.ports[place->port].taken;
+    expect.secure = is_secure(place->port, request);
     put_request(place->port, taken, request);
     if (many)
         store32(rings + header_at(place->port, REQ_PROD), taken + SLOTS - place->in_flight);

@@ -8,7 +8,7 @@ struct expect {
     uint32_t refusal;
     enum kind kind;
     uint32_t port, reason, status;
-    bool notify;
+    bool secure, notify;
 };
 
 /* Scenarios of one name and layout come one after the other; the first is the sample of them. */

@@ -15,6 +15,7 @@ static const char *const names[] = {
     [SLOT_BY_LIBRARY] = "slot-by-library",
     [SECOND_LOOK] = "second-look",
     [BOUNDARIES_AGAIN] = "boundaries-again",
+    [FLAG_AGAIN] = "flag-again",
     [RSP_EVENT_TWICE] = "rsp-event-twice",
     [RSP_EVENT_ALWAYS] = "rsp-event-always",
     [RSP_PROD_READ] = "rsp-prod-read",
@@ -160,6 +161,15 @@ static void look_at_boundaries(unsigned port, const uint64_t *answer) {
         take32(at + 8 * i + 4);
 }
 
+/* One look at the slot for the checks, and another at a discard's flag for the mark. */
+static void look_at_flag(unsigned port, uint64_t *answer) {
+    unsigned at = slot_at(port, bench.ports[port].taken) + 1;
+    if (answer[KH_TURN_OPERATION] != KH_DISCARD)
+        return;
+    take_byte(at);
+    answer[KH_TURN_SECURE] = bench.ports[port].secure && (copy[at] & KH_DISCARD_SECURE) != 0;
+}
+
 static void end_turn(unsigned port, uint64_t *answer) {
     if (answer[KH_TURN_KIND] == IDLE)
         for (unsigned k = 0; k < PORTS; k++)
@@ -169,6 +179,8 @@ static void end_turn(unsigned port, uint64_t *answer) {
         give_response(port);
     if (answer[KH_TURN_KIND] == STARTED && fault == SECOND_LOOK)
         look_again(port, answer);
+    if (answer[KH_TURN_KIND] == STARTED && fault == FLAG_AGAIN)
+        look_at_flag(port, answer);
     if (answer[KH_TURN_KIND] == STARTED && fault == RSP_EVENT_ALWAYS)
         take_rsp_event(port);
     if (answer[KH_TURN_KIND] == STARTED && fault == ARMED_ON_SERVICE)

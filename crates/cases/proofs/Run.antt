@@ -13,8 +13,8 @@ use Rattle.model.specs.Buffers.{pageOf, setPage, grantsOf}
 use Rattle.model.specs.Ring.{reqProd, setReqEvent, setRspProd, rspEvent, ringFor, slotAt, slotOf, segmentOf, segmentsOf, requestOf, setResponse, responsePair, responseStatus}
 use Rattle.model.specs.NodeSheet.{entryAt, bodyLength, entriesFrom, entriesOf, bodiesEnd, wellFormed, rising, isDigit, digitsFrom, capped, digitsOf, numberOf, choiceBody, numberBody, isSectorSize, isAllowed, bodyOf, afterBody, afterBodies, valueOf, absent, valuesOf, present, paramsOf, hasRequired, sheetOf}
 use Rattle.model.specs.Port.{isBusy, inFlightOf, lowestFree, distance, pendingOf}
-use Rattle.model.specs.Checks.{asksSecure, isEmptyBarrier, movesNothing, sectorsIn, totalSectors, countOf, dataSegments, isAligned, isOnBoundaries, isGranted, unknownOperation, featureOff, secureOff, readOnly, wrongAmount, isWithinFrame, wrongSegment, notGranted, pastEnd, unaligned, operationChecks, segmentChecks, diskChecks, checks}
-use Rattle.model.specs.Plan.{extentsFrom, extentsOf, extentWords, wordsBeside, planOf, verdictOf}
+use Rattle.model.specs.Checks.{isEmptyBarrier, movesNothing, sectorsIn, totalSectors, countOf, dataSegments, isAligned, isOnBoundaries, isGranted, unknownOperation, featureOff, readOnly, wrongAmount, isWithinFrame, wrongSegment, notGranted, pastEnd, unaligned, operationChecks, segmentChecks, diskChecks, checks}
+use Rattle.model.specs.Plan.{extentsFrom, extentsOf, extentWords, wordsBeside, asksSecure, isSecure, planOf, verdictOf}
 use Rattle.model.specs.Calls.{Call, Open, Close, Turn, Complete, Effect, Event}
 use Rattle.model.specs.Turn.{portId, tagId, serialOf, pendingAt, hasWork, passedOver, armed, idle, responded, respondedAt, notifies, requestAt, settled, overran, servedBy, turned}
 use Rattle.model.specs.Complete.{expectedOf, statusOf, completed}
@@ -242,7 +242,7 @@ computed :
           ∷ turnSeen true (some 2)
           ∷ [];
     }
-unfolding page rings grants words load store part setPart all same least tally pageOf setPage grantsOf reqProd setReqEvent setRspProd rspEvent ringFor slotAt slotOf segmentOf segmentsOf requestOf setResponse entryAt bodyLength entriesFrom entriesOf bodiesEnd wellFormed rising isDigit digitsFrom capped digitsOf numberOf choiceBody numberBody isSectorSize isAllowed bodyOf afterBody afterBodies valueOf absent valuesOf present paramsOf hasRequired sheetOf isBusy inFlightOf lowestFree distance pendingOf asksSecure isEmptyBarrier movesNothing sectorsIn totalSectors countOf dataSegments isAligned isOnBoundaries isGranted unknownOperation featureOff secureOff readOnly wrongAmount isWithinFrame wrongSegment notGranted pastEnd unaligned operationChecks segmentChecks diskChecks checks extentsFrom extentsOf extentWords wordsBeside planOf verdictOf pendingAt hasWork passedOver armed idle responded respondedAt notifies requestAt settled overran servedBy turned expectedOf statusOf completed openedBy dueOpen dueClose dueTurn namesNone refusedCompletion dueComplete effectDue viewOf withPort withTag withPointer does next both unknown overfull again earlier later inOrder historyFrom book answerTo unfinished asked saidIn responsePair turnsOf hasToServe responseStatus
+unfolding page rings grants words load store part setPart all same least tally pageOf setPage grantsOf reqProd setReqEvent setRspProd rspEvent ringFor slotAt slotOf segmentOf segmentsOf requestOf setResponse entryAt bodyLength entriesFrom entriesOf bodiesEnd wellFormed rising isDigit digitsFrom capped digitsOf numberOf choiceBody numberBody isSectorSize isAllowed bodyOf afterBody afterBodies valueOf absent valuesOf present paramsOf hasRequired sheetOf isBusy inFlightOf lowestFree distance pendingOf isEmptyBarrier movesNothing sectorsIn totalSectors countOf dataSegments isAligned isOnBoundaries isGranted unknownOperation featureOff readOnly wrongAmount isWithinFrame wrongSegment notGranted pastEnd unaligned operationChecks segmentChecks diskChecks checks extentsFrom extentsOf extentWords wordsBeside asksSecure isSecure planOf verdictOf pendingAt hasWork passedOver armed idle responded respondedAt notifies requestAt settled overran servedBy turned expectedOf statusOf completed openedBy dueOpen dueClose dueTurn namesNone refusedCompletion dueComplete effectDue viewOf withPort withTag withPointer does next both unknown overfull again earlier later inOrder historyFrom book answerTo unfinished asked saidIn responsePair turnsOf hasToServe responseStatus
 computed = refl
 
 -- ---- bytes of the rings
@@ -283,5 +283,5 @@ record Bytes : Type 0 where
   extents32 : turn sheet32 (lent32 2000) .words ≡ 5 ∷ 0 ∷ 8 ∷ 2000 ∷ replicate 40 0
 
 bytes : Bytes
-unfolding lent lent32 opened wrote page rings grants words load store part setPart all same least tally pageOf setPage grantsOf reqProd setReqEvent setRspProd rspEvent ringFor slotAt slotOf segmentOf segmentsOf requestOf setResponse entryAt bodyLength entriesFrom entriesOf bodiesEnd wellFormed rising isDigit digitsFrom capped digitsOf numberOf choiceBody numberBody isSectorSize isAllowed bodyOf afterBody afterBodies valueOf absent valuesOf present paramsOf hasRequired sheetOf isBusy inFlightOf lowestFree distance pendingOf asksSecure isEmptyBarrier movesNothing sectorsIn totalSectors countOf dataSegments isAligned isOnBoundaries isGranted unknownOperation featureOff secureOff readOnly wrongAmount isWithinFrame wrongSegment notGranted pastEnd unaligned operationChecks segmentChecks diskChecks checks extentsFrom extentsOf extentWords wordsBeside planOf verdictOf pendingAt hasWork passedOver armed idle responded respondedAt notifies requestAt settled overran servedBy turned expectedOf statusOf completed openedBy dueOpen dueClose dueTurn namesNone refusedCompletion dueComplete effectDue viewOf withPort withTag withPointer does next
+unfolding lent lent32 opened wrote page rings grants words load store part setPart all same least tally pageOf setPage grantsOf reqProd setReqEvent setRspProd rspEvent ringFor slotAt slotOf segmentOf segmentsOf requestOf setResponse entryAt bodyLength entriesFrom entriesOf bodiesEnd wellFormed rising isDigit digitsFrom capped digitsOf numberOf choiceBody numberBody isSectorSize isAllowed bodyOf afterBody afterBodies valueOf absent valuesOf present paramsOf hasRequired sheetOf isBusy inFlightOf lowestFree distance pendingOf isEmptyBarrier movesNothing sectorsIn totalSectors countOf dataSegments isAligned isOnBoundaries isGranted unknownOperation featureOff readOnly wrongAmount isWithinFrame wrongSegment notGranted pastEnd unaligned operationChecks segmentChecks diskChecks checks extentsFrom extentsOf extentWords wordsBeside asksSecure isSecure planOf verdictOf pendingAt hasWork passedOver armed idle responded respondedAt notifies requestAt settled overran servedBy turned expectedOf statusOf completed openedBy dueOpen dueClose dueTurn namesNone refusedCompletion dueComplete effectDue viewOf withPort withTag withPointer does next
 bytes = record { response = refl; response32 = refl; answeredHeader = refl; idleHeader = refl; extents = refl; extents32 = refl }

@@ -2,14 +2,13 @@
 use borrow.Author.Tests.{ne-eqb}
 use mathlib.Core.Path.{_≡_, refl}
 use mathlib.Core.Bool.{Bool, true, false, not, cond, _&&_, _||_}
-use Prim.Native.Nat.{ℕ, _%_}
+use Prim.Native.Nat.{ℕ}
 use lib.Dec.{eqb, ltb, leb}
 use Rattle.model.specs.Ring.{Request}
-use Rattle.model.specs.Checks.{asksSecure, unknownOperation, featureOff, secureOff, readOnly, wrongAmount, operationChecks}
+use Rattle.model.specs.Checks.{unknownOperation, featureOff, readOnly, wrongAmount, operationChecks}
 use Rattle.model.specs.declared.Checked.{Checked}
 use Rattle.model.specs.declared.Params.{Params}
 use Rattle.model.specs.declared.Status.{Status}
-use Rattle.model.proofs.Base.{and-false}
 use Rattle.checks.specs.Operations.{reasonOf, operationReason}
 
 -- 25, told the other way round
@@ -43,11 +42,11 @@ module _ (p : Params) (r : Request) where
   reason-unknown u = rw u
 
   pub reason-read : r .pair .operation ≡ 0 → operationReason p r ≡ cond (leb 1 (r .n) && leb (r .n) 11) 0 25
-  unfolding operationReason operationChecks unknownOperation featureOff secureOff asksSecure readOnly wrongAmount
+  unfolding operationReason operationChecks unknownOperation featureOff readOnly wrongAmount
   reason-read o = rw o (amount (leb 1 (r .n) && leb (r .n) 11))
 
   pub reason-write : r .pair .operation ≡ 1 → operationReason p r ≡ cond (p .writable) (cond (leb 1 (r .n) && leb (r .n) 11) 0 25) 24
-  unfolding operationReason operationChecks unknownOperation featureOff secureOff asksSecure readOnly wrongAmount
+  unfolding operationReason operationChecks unknownOperation featureOff readOnly wrongAmount
   reason-write o = rw o (mode (p .writable) _ _ (amount (leb 1 (r .n) && leb (r .n) 11)))
 
   -- ---- barrier
@@ -57,7 +56,7 @@ module _ (p : Params) (r : Request) where
   barrier-off o f = rw (o, f)
 
   pub reason-barrier : r .pair .operation ≡ 2 → p .barrier ≡ true → operationReason p r ≡ cond (p .writable) (cond (ltb 11 (r .n)) 25 0) 24
-  unfolding operationReason operationChecks unknownOperation featureOff secureOff asksSecure readOnly wrongAmount
+  unfolding operationReason operationChecks unknownOperation featureOff readOnly wrongAmount
   reason-barrier o f = rw (o, f) (mode (p .writable) _ _ (few (ltb 11 (r .n))))
 
   -- ---- flush
@@ -67,11 +66,11 @@ module _ (p : Params) (r : Request) where
   flush-off o f = rw (o, f)
 
   pub flush-some : r .pair .operation ≡ 3 → p .flush ≡ true → (r .n ≡ 0 → ⊥) → operationReason p r ≡ 25
-  unfolding operationReason operationChecks unknownOperation featureOff secureOff asksSecure readOnly wrongAmount
+  unfolding operationReason operationChecks unknownOperation featureOff readOnly wrongAmount
   flush-some o f h = rw (o, f, ne-eqb (r .n) 0 h)
 
   pub reason-flush : r .pair .operation ≡ 3 → p .flush ≡ true → r .n ≡ 0 → operationReason p r ≡ 0
-  unfolding operationReason operationChecks unknownOperation featureOff secureOff asksSecure readOnly wrongAmount
+  unfolding operationReason operationChecks unknownOperation featureOff readOnly wrongAmount
   reason-flush o f h = rw (o, f, h)
 
   -- ---- discard
@@ -80,20 +79,6 @@ module _ (p : Params) (r : Request) where
   unfolding operationReason operationChecks unknownOperation featureOff
   discard-off o f = rw (o, f)
 
-  pub discard-insecure : r .pair .operation ≡ 5 → p .discard ≡ true → r .flag % 2 ≡ 1 → p .secure ≡ false → operationReason p r ≡ 23
-  unfolding operationReason operationChecks unknownOperation featureOff secureOff asksSecure
-  discard-insecure o f b s = rw (o, f, b, s)
-
-  -- a discard that check 23 lets pass
-  pub reason-discard : r .pair .operation ≡ 5 → p .discard ≡ true → secureOff p r ≡ false
-      → operationReason p r ≡ cond (p .writable) (cond (eqb (r .sectors) 0) 25 0) 24
+  pub reason-discard : r .pair .operation ≡ 5 → p .discard ≡ true → operationReason p r ≡ cond (p .writable) (cond (eqb (r .sectors) 0) 25 0) 24
   unfolding operationReason operationChecks unknownOperation featureOff readOnly wrongAmount
-  reason-discard o f b = rw (b, o, f) (mode (p .writable) _ _ (none (eqb (r .sectors) 0)))
-
-  pub secure-on : r .pair .operation ≡ 5 → p .secure ≡ true → secureOff p r ≡ false
-  unfolding secureOff asksSecure
-  secure-on o s = rw (o, s) (and-false (eqb (r .flag % 2) 1))
-
-  pub secure-unasked : r .pair .operation ≡ 5 → (r .flag % 2 ≡ 1 → ⊥) → secureOff p r ≡ false
-  unfolding secureOff asksSecure
-  secure-unasked o h = rw (o, ne-eqb (r .flag % 2) 1 h)
+  reason-discard o f = rw (o, f) (mode (p .writable) _ _ (none (eqb (r .sectors) 0)))

@@ -12,7 +12,6 @@ use model::operation::READ;
 use model::operation::WRITE;
 use model::reason::FEATURE_OFF;
 use model::reason::READ_ONLY;
-use model::reason::SECURE_OFF;
 use model::reason::UNKNOWN_OPERATION;
 use model::reason::WRONG_AMOUNT;
 ghost use mathlib.Core.Bool.{cond, _&&_};
@@ -75,12 +74,6 @@ fn discard_reason(params: model::Params, slot: &[u8; SLOT_BYTES]) -> u32
     let later = discard_amount(wire::u64_at(slot, COPY_SEGMENTS));
     if !params.discard {
         return FEATURE_OFF;
-    }
-    if slot[REQUEST_COUNT] % 2 == 1 {
-        if !params.secure {
-            return SECURE_OFF;
-        }
-        return mode_reason(params.writable, later);
     }
     mode_reason(params.writable, later)
 }

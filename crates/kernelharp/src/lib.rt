@@ -24,12 +24,12 @@ pub use putting::kh_guest_put;
 pub use turning::kh_turn;
 
 // major * 10000 + minor * 100 + patch
-const VERSION: u32 = 600;
+const VERSION: u32 = 700;
 
 // Which version the archive is.
 #[no_mangle]
 pub extern "C" fn kh_version() -> u32
-    ensures { λ n. ⌜ n ≡ 600 ⌝ }
+    ensures { λ n. ⌜ n ≡ 700 ⌝ }
 {
     VERSION
 }

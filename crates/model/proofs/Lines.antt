@@ -5,11 +5,11 @@ use Rattle.wire.specs.LittleEndian.{load, store}
 use Rattle.model.specs.Base.{tally, all}
 use Rattle.model.specs.Ring.{ringFor, segmentOf, segmentsOf, requestOf}
 use Rattle.model.specs.Port.{isBusy, inFlightOf, distance, pendingOf}
-use Rattle.model.specs.Checks.{asksSecure, isEmptyBarrier, movesNothing, sectorsIn, totalSectors, countOf, dataSegments, isAligned, isOnBoundaries, isGranted, unknownOperation, featureOff, secureOff, readOnly, wrongAmount, isWithinFrame, wrongSegment, notGranted, pastEnd, unaligned, operationChecks, segmentChecks, diskChecks, checks}
-use Rattle.model.specs.Plan.{extentsFrom, extentsOf, planOf, verdictOf}
+use Rattle.model.specs.Checks.{isEmptyBarrier, movesNothing, sectorsIn, totalSectors, countOf, dataSegments, isAligned, isOnBoundaries, isGranted, unknownOperation, featureOff, readOnly, wrongAmount, isWithinFrame, wrongSegment, notGranted, pastEnd, unaligned, operationChecks, segmentChecks, diskChecks, checks}
+use Rattle.model.specs.Plan.{extentsFrom, extentsOf, asksSecure, isSecure, planOf, verdictOf}
 use Rattle.model.specs.Complete.{statusOf}
 use Rattle.model.specs.Lines.{starred}
 
 pub starred-hold : all (λ (b : Bool). b) starred ≡ true
-unfolding starred tally all load store ringFor segmentOf segmentsOf requestOf isBusy inFlightOf distance pendingOf asksSecure isEmptyBarrier movesNothing sectorsIn totalSectors countOf dataSegments isAligned isOnBoundaries isGranted unknownOperation featureOff secureOff readOnly wrongAmount isWithinFrame wrongSegment notGranted pastEnd unaligned operationChecks segmentChecks diskChecks checks extentsFrom extentsOf planOf verdictOf statusOf
+unfolding starred tally all load store ringFor segmentOf segmentsOf requestOf isBusy inFlightOf distance pendingOf isEmptyBarrier movesNothing sectorsIn totalSectors countOf dataSegments isAligned isOnBoundaries isGranted unknownOperation featureOff readOnly wrongAmount isWithinFrame wrongSegment notGranted pastEnd unaligned operationChecks segmentChecks diskChecks checks extentsFrom extentsOf asksSecure isSecure planOf verdictOf statusOf
 starred-hold = refl

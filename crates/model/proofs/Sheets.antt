@@ -1,6 +1,6 @@
 -- Node sheets on both sides of each refusal (rules 7.11 to 7.15), computed.
 use mathlib.Core.Path.{_≡_, refl}
-use mathlib.Core.Bool.{true, false}
+use mathlib.Core.Bool.{Bool, true, false}
 use mathlib.Core.List.{List, [], _∷_, _++_, map}
 use Prim.Native.Nat.{ℕ, _%_, _/_}
 use lib.ListN.{length, replicate}
@@ -103,18 +103,33 @@ refused =
     ∷ judged 15 (laid (writable ∷ size512 ∷ []))
     ∷ []
 
--- a writable disk with no feature, for a guest of a layout
-abbrev disk : Abi → ℕ → Params
-disk abi sectors = record {
+-- a writable disk with these features
+abbrev offering : Bool → Bool → Bool → Bool → Abi → ℕ → Params
+offering barrier flush discard secure abi sectors = record {
   writable = true;
-  barrier = false;
-  flush = false;
-  discard = false;
-  secure = false;
+  barrier = barrier;
+  flush = flush;
+  discard = discard;
+  secure = secure;
   sector = SectorSize.Bytes512;
   sectors = sectors;
   abi = abi;
 }
+
+-- one with none, for a guest of a layout
+abbrev disk : Abi → ℕ → Params
+disk = offering false false false false
+
+-- the usual one with one of them, as its sheet says and as it is read
+record One : Type 0 where
+  by : ℕ
+  params : Params
+
+abbrev one : ℕ → Bool → Bool → Bool → Bool → One
+one n barrier flush discard secure = record { by = n; params = offering barrier flush discard secure Abi.Bits64 2008 }
+
+ones : List One
+ones = one 2 true false false false ∷ one 3 false true false false ∷ one 4 false false true false ∷ one 5 false false false true ∷ []
 
 record Computed : Type 0 where
   refusals : map (λ (j : Judged). sheetOf (j .sheet)) refused ≡ map (λ (j : Judged). Sheet.Refused (j .number)) refused
@@ -126,6 +141,8 @@ record Computed : Type 0 where
   noSectors : sheetOf (laid (writable ∷ size512 ∷ node 7 (48 ∷ []) ∷ [])) ≡ Sheet.Read (disk Abi.Bits64 0)
   -- a 32-bit guest's (rule 3.5)
   narrow : sheetOf (laid (writable ∷ size512 ∷ sectors2008 ∷ node 8 (120 ∷ 56 ∷ 54 ∷ 95 ∷ 51 ∷ 50 ∷ 45 ∷ 97 ∷ 98 ∷ 105 ∷ []) ∷ [])) ≡ Sheet.Read (disk Abi.Bits32 2008)
+  -- each feature by its own node (rule 3.5)
+  features : map (λ (o : One). sheetOf (laid (writable ∷ node (o .by) (49 ∷ []) ∷ size512 ∷ sectors2008 ∷ []))) ones ≡ map (λ (o : One). Sheet.Read (o .params)) ones
   -- every node, with the largest number of sectors
   everyNode :
       sheetOf (laid (writable ∷ node 2 (49 ∷ []) ∷ node 3 (48 ∷ []) ∷ node 4 (49 ∷ []) ∷ node 5 (49 ∷ []) ∷ node 6 (52 ∷ 48 ∷ 57 ∷ 54 ∷ []) ∷ node 7 (49 ∷ 56 ∷ 52 ∷ 52 ∷ 54 ∷ 55 ∷ 52 ∷ 52 ∷ 48 ∷ 55 ∷ 51 ∷ 55 ∷ 48 ∷ 57 ∷ 53 ∷ 53 ∷ 49 ∷ 54 ∷ 49 ∷ 53 ∷ []) ∷ node 8 (120 ∷ 56 ∷ 54 ∷ 95 ∷ 54 ∷ 52 ∷ 45 ∷ 97 ∷ 98 ∷ 105 ∷ []) ∷ node 9 (48 ∷ []) ∷ []))
@@ -141,5 +158,5 @@ record Computed : Type 0 where
       })
 
 computed : Computed
-unfolding contents bodies laid refused load part all same entryAt bodyLength entriesFrom entriesOf bodiesEnd wellFormed rising isDigit digitsFrom capped digitsOf numberOf choiceBody numberBody isSectorSize isAllowed bodyOf afterBody afterBodies valueOf absent valuesOf present paramsOf hasRequired sheetOf
-computed = record { refusals = refl; whole = refl; noSectors = refl; narrow = refl; everyNode = refl }
+unfolding contents bodies laid refused ones load part all same entryAt bodyLength entriesFrom entriesOf bodiesEnd wellFormed rising isDigit digitsFrom capped digitsOf numberOf choiceBody numberBody isSectorSize isAllowed bodyOf afterBody afterBodies valueOf absent valuesOf present paramsOf hasRequired sheetOf
+computed = record { refusals = refl; whole = refl; noSectors = refl; narrow = refl; features = refl; everyNode = refl }

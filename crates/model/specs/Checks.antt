@@ -1,4 +1,4 @@
--- Section 8 of docs/RULES.md: the checks 21 to 29 of a guest's request, with the status of each reason.
+-- Section 8 of docs/RULES.md: the checks 21 to 29 of a guest's request, with the status of each reason. 23 is withdrawn, and its number is unused (rule 8.23).
 use Prim.Native.Nat.{ℕ, _+_, _-_, _%_}
 use mathlib.Core.Bool.{Bool, not, cond, _&&_, _||_}
 use mathlib.Core.List.{List, [], _∷_, _++_}
@@ -19,10 +19,6 @@ isA operation r = eqb (r .pair .operation) operation
 -- blkif.h's BLKIF_MAX_SEGMENTS_PER_REQUEST (rules 1.18 and 2.16)
 abbrev pub maxSegments : ℕ
 maxSegments = 11
-
--- blkif.h's BLKIF_DISCARD_SECURE, bit 0 of the flag; the others are not looked at (rules 1.18, 2.9 and 5.23)
-unfoldable pub asksSecure : Request → Bool
-asksSecure r = isA discard r && eqb (r .flag % 2) 1
 
 -- a barrier with n = 0 (rule 5.24)
 unfoldable pub isEmptyBarrier : Request → Bool
@@ -83,7 +79,7 @@ suffices operation b = cond (eqb operation read) (mayWrite b) (mayRead b)
 unfoldable pub isGranted : List ℕ → ℕ → Segment → Bool
 isGranted grants operation s = ltb (s .frame) grantShare && suffices operation (getD grants (s .frame) 0)
 
--- ---- the nine checks: what each finds at fault
+-- ---- the eight checks: what each finds at fault
 
 -- 21: none of the five operations (rules 2.14 and 8.21)
 unfoldable pub unknownOperation : Request → Bool
@@ -92,10 +88,6 @@ unknownOperation r = not (isA read r || isA write r || isA barrier r || isA flus
 -- 22: what the operation needs is off (rule 8.22)
 unfoldable pub featureOff : Params → Request → Bool
 featureOff p r = isA barrier r && not (p .barrier) || isA flush r && not (p .flush) || isA discard r && not (p .discard)
-
--- 23: a secure discard, and those are off (rule 8.23)
-unfoldable pub secureOff : Params → Request → Bool
-secureOff p r = asksSecure r && not (p .secure)
 
 -- 24: the disk would be written, and may not (rule 8.24)
 unfoldable pub readOnly : Params → Request → Bool
@@ -145,7 +137,6 @@ unfoldable pub operationChecks : Params → Request → List Check
 operationChecks p r =
     check 21 Status.NotSupported (unknownOperation r)
     ∷ check 22 Status.NotSupported (featureOff p r)
-    ∷ check 23 Status.NotSupported (secureOff p r)
     ∷ check 24 Status.Error (readOnly p r)
     ∷ check 25 Status.Error (wrongAmount r)
     ∷ []
@@ -164,7 +155,7 @@ diskChecks p start count ss =
     ∷ check 29 Status.Error (unaligned p start count ss)
     ∷ []
 
--- the nine checks, in number order (rule 8.2); a request that moves nothing has no range (rule 8.7)
+-- the eight checks, in number order (rule 8.2); a request that moves nothing has no range (rule 8.7)
 unfoldable pub checks : Params → List ℕ → Request → List Check
 checks p grants r =
     operationChecks p r ++ (segmentChecks grants r ++ cond (movesNothing r) [] (diskChecks p (r .start) (countOf r) (dataSegments r)))

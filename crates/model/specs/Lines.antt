@@ -1,7 +1,7 @@
 -- Section 9 of docs/RULES.md: the worked cases with a star, as one list of tests that the checker computes (rule 9.1). The others (rules 9.7, 9.12, 9.13, 9.19 to
 -- 9.21 and 9.25) are run through the code.
 use Prim.Native.Nat.{ℕ, zero, suc, _+_, _*_}
-use mathlib.Core.Bool.{Bool, true, false}
+use mathlib.Core.Bool.{Bool, true, false, not, cond}
 use mathlib.Core.List.{List, [], _∷_}
 use lib.Dec.{eqb}
 use lib.IntN.{ℤ, pos, negsuc}
@@ -18,21 +18,28 @@ use Rattle.model.specs.declared.SectorSize.{SectorSize}
 use Rattle.model.specs.declared.Status.{Status}
 use Rattle.model.specs.declared.Verdict.{Verdict}
 
--- a disk with every feature; `usual` is that of section 9
-abbrev disk : Bool → SectorSize → ℕ → Params
-disk writable size sectors = record {
+-- a disk with every feature, secure discards or not; `usual` is that of section 9
+abbrev diskWith : Bool → Bool → SectorSize → ℕ → Params
+diskWith secure writable size sectors = record {
   writable = writable;
   barrier = true;
   flush = true;
   discard = true;
-  secure = true;
+  secure = secure;
   sector = size;
   sectors = sectors;
   abi = Abi.Bits64;
 }
 
+abbrev disk : Bool → SectorSize → ℕ → Params
+disk = diskWith true
+
 abbrev usual : Params
 usual = disk true SectorSize.Bytes512 2008
+
+-- the usual one without secure discards (rules 9.35 and 9.38)
+abbrev insecure : Bool → Params
+insecure writable = diskWith false writable SectorSize.Bytes512 2008
 
 -- grants that say one thing of frame 5, and nothing of any other
 abbrev grant : ℕ → List ℕ
@@ -49,6 +56,10 @@ segments (suc i) first last slot = store 1 (store 1 (store 4 (segments i first l
 abbrev slot : ℕ → ℕ → ℕ → ℕ → ℕ → List ℕ
 slot operation n start first last = segments 11 first last (store 8 (store 1 (store 1 (replicate 112 0) 0 operation) 1 n) 16 start)
 
+-- a discard from sector 2000 on: its flag, and how many sectors
+abbrev discarding : ℕ → ℕ → List ℕ
+discarding flag sectors = store 8 (slot discard flag 2000 0 0) 24 sectors
+
 abbrev judge : Params → List ℕ → List ℕ → Verdict
 judge p grants bytes = verdictOf p grants (requestOf layout bytes)
 
@@ -61,6 +72,11 @@ refused n (Verdict.Start plan) = false
 abbrev starts : ℕ → Verdict → Bool
 starts count (Verdict.Refused m s) = false
 starts count (Verdict.Start plan) = eqb count (plan .count)
+
+-- it starts, and its secure mark is this
+abbrev marked : Bool → Verdict → Bool
+marked secure (Verdict.Refused m s) = false
+marked secure (Verdict.Start plan) = cond secure (plan .secure) (not (plan .secure))
 
 abbrev waits : Pending → Bool
 waits Pending.Nothing = false
@@ -121,8 +137,22 @@ starred =
     -- rule 9.33: a barrier without segments has no range
     ∷ starts 0 (judge (disk true SectorSize.Bytes4096 2008) (grant 2) (slot barrier 0 4 0 7))
     -- rule 9.34: a discard has no segments, but a range; its sectors stand where a segment would
-    ∷ starts 8 (judge (disk true SectorSize.Bytes4096 2008) (grant 2) (store 8 (slot discard 1 8 0 0) 24 8))
-    ∷ refused 29 (judge (disk true SectorSize.Bytes4096 2008) (grant 2) (store 8 (slot discard 1 8 0 0) 24 12))
+    ∷ starts 8 (judge (disk true SectorSize.Bytes4096 2008) (grant 2) (store 8 (slot discard 0 8 0 0) 24 8))
+    ∷ refused 29 (judge (disk true SectorSize.Bytes4096 2008) (grant 2) (store 8 (slot discard 0 8 0 0) 24 12))
+    -- rule 9.35: a secure discard where there are none is a plain one
+    ∷ starts 8 (judge (insecure true) (grant 0) (discarding 1 8))
+    ∷ marked false (judge (insecure true) (grant 0) (discarding 1 8))
+    -- rule 9.36: where there are, it is one
+    ∷ marked true (judge usual (grant 0) (discarding 1 8))
+    -- rule 9.37: bit 0 asks for it, whatever the others are
+    ∷ marked false (judge usual (grant 0) (discarding 254 8))
+    ∷ marked true (judge usual (grant 0) (discarding 255 8))
+    -- rule 9.38: the other checks are made as of a plain one
+    ∷ refused 28 (judge (insecure true) (grant 0) (discarding 1 9))
+    ∷ refused 25 (judge (insecure true) (grant 0) (discarding 1 0))
+    ∷ refused 24 (judge (insecure false) (grant 0) (discarding 1 9))
+    -- rule 9.39: of a read the byte is no flag
+    ∷ marked false (judge usual (grant 2) (slot read 1 2000 0 7))
     -- rule 9.16: 24 comes before 25
     ∷ refused 24 (judge (disk false SectorSize.Bytes512 2008) (grant 2) (slot write 12 2000 0 7))
     -- rule 9.17: a full ring

@@ -1,10 +1,11 @@
 -- Section 5 of docs/RULES.md, plans: that of a request that passed the checks, and the verdict on any request.
-use Prim.Native.Nat.{ℕ, zero, suc, _+_, _*_}
-use mathlib.Core.Bool.{cond}
+use Prim.Native.Nat.{ℕ, zero, suc, _+_, _*_, _%_}
+use mathlib.Core.Bool.{Bool, cond, _&&_}
 use mathlib.Core.List.{List, [], _∷_}
+use lib.Dec.{eqb}
 use lib.ListN.{length}
 use Rattle.model.specs.Ring.{Request, discard}
-use Rattle.model.specs.Checks.{isA, maxSegments, asksSecure, movesNothing, sectorsIn, countOf, checks, firstFailed}
+use Rattle.model.specs.Checks.{isA, maxSegments, movesNothing, sectorsIn, countOf, checks, firstFailed}
 use Rattle.model.specs.declared.Checked.{Checked}
 use Rattle.model.specs.declared.Params.{Params}
 use Rattle.model.specs.declared.Plan.{Plan}
@@ -34,13 +35,21 @@ extentWords zero es = []
 extentWords (suc n) [] = 0 ∷ 0 ∷ 0 ∷ 0 ∷ extentWords n []
 extentWords (suc n) (e ∷ es) = e .frame ∷ e .first ∷ e .count ∷ e .sector ∷ extentWords n es
 
+-- blkif.h's BLKIF_DISCARD_SECURE, bit 0 of the flag; the others are not looked at (rules 1.18 and 2.9)
+unfoldable pub asksSecure : Request → Bool
+asksSecure r = isA discard r && eqb (r .flag % 2) 1
+
+-- the secure mark; a disk without secure discards ignores the bit (rule 5.23)
+unfoldable pub isSecure : Params → Request → Bool
+isSecure p r = asksSecure r && p .secure
+
 -- what the host is to do for a request (rules 5.22 to 5.26)
-unfoldable pub planOf : Request → Plan
-planOf r = record {
+unfoldable pub planOf : Params → Request → Plan
+planOf p r = record {
   operation = r .pair .operation;
   start = cond (movesNothing r) 0 (r .start);
   count = countOf r;
-  secure = asksSecure r;
+  secure = isSecure p r;
   extents = length (extentsOf r);
 }
 
@@ -51,7 +60,7 @@ decided plan (Checked.Refused n s) = Verdict.Refused n s
 
 -- the verdict on a request, by its own checks and its own plan (rules 5.19, 8.2 and 11.5)
 unfoldable pub verdictOf : Params → List ℕ → Request → Verdict
-verdictOf p grants r = decided (planOf r) (firstFailed (checks p grants r))
+verdictOf p grants r = decided (planOf p r) (firstFailed (checks p grants r))
 
 -- how many words all places have (rule 5.33)
 abbrev pub planWords : ℕ

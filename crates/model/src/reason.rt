@@ -1,9 +1,7 @@
-// The reasons that a request is refused with, in the order of their checks.
+// The reasons that a request is refused with, in the order of their checks. 23 is withdrawn: its number stays unused.
 pub const UNKNOWN_OPERATION: u32 = 21;
 
 pub const FEATURE_OFF: u32 = 22;
-
-pub const SECURE_OFF: u32 = 23;
 
 pub const READ_ONLY: u32 = 24;
 

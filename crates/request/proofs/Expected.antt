@@ -25,11 +25,11 @@ module _ (q : Params) (l : Layout) (grants slot : List ℕ) (plan : Plan) (e : v
 
   pub amount : wrongAmount (requestOf l slot) ≡ false
   unfolding checks operationChecks
-  amount = none-fails (checks q grants (requestOf l slot)) 4 (all-passed q grants (requestOf l slot) plan e .0)
+  amount = none-fails (checks q grants (requestOf l slot)) 3 (all-passed q grants (requestOf l slot) plan e .0)
 
   within : wrongSegment (requestOf l slot) ≡ false
   unfolding checks operationChecks segmentChecks
-  within = none-fails (checks q grants (requestOf l slot)) 5 (all-passed q grants (requestOf l slot) plan e .0)
+  within = none-fails (checks q grants (requestOf l slot)) 4 (all-passed q grants (requestOf l slot) plan e .0)
 
   segment-count : length (requestOf l slot .segments) ≡ requestOf l slot .n
   unfolding requestOf
@@ -49,7 +49,7 @@ module _ (q : Params) (l : Layout) (grants slot : List ℕ) (plan : Plan) (e : v
       at-most true = omega arith
       at-most false = few-sectors d
 
-  small : expectedOf (planOf (requestOf l slot)) < 2 ^ 32
+  small : expectedOf (planOf q (requestOf l slot)) < 2 ^ 32
   unfolding expectedOf planOf
   small =
       elim (ℕ-discrete (requestOf l slot .pair .operation) 5) [

@@ -1,3 +1,4 @@
 pub mod Verdict
 pub mod Expected
 pub mod WholeSectors
+pub mod FlagIgnored

@@ -12,8 +12,8 @@ use lib.ListN.{length}
 use Rattle.model.specs.Base.{all}
 use Rattle.model.specs.Ring.{Request}
 use Rattle.layout.specs.Copy.{requestIn}
-use Rattle.model.specs.Checks.{asksSecure, isEmptyBarrier, movesNothing, totalSectors, countOf, dataSegments, isGranted, unknownOperation, wrongAmount, isWithinFrame, wrongSegment, notGranted, operationChecks, segmentChecks, diskChecks, firstFailed}
-use Rattle.model.specs.Plan.{extentsFrom, extentsOf, extentWords, planOf, decided, verdictOf, noWords, wordsBeside}
+use Rattle.model.specs.Checks.{isEmptyBarrier, movesNothing, totalSectors, countOf, dataSegments, isGranted, unknownOperation, wrongAmount, isWithinFrame, wrongSegment, notGranted, operationChecks, segmentChecks, diskChecks, checks, firstFailed}
+use Rattle.model.specs.Plan.{extentsFrom, extentsOf, extentWords, asksSecure, isSecure, planOf, decided, verdictOf, noWords, wordsBeside}
 use Rattle.model.specs.declared.Checked.{Checked}
 use Rattle.model.specs.declared.Params.{Params}
 use Rattle.model.specs.declared.Plan.{Plan}
@@ -24,7 +24,7 @@ use Rattle.segments.specs.Segments.{passes}
 use Rattle.segments.proofs.Pass.{passes-each, passes-within, passes-granted}
 use Rattle.extents.proofs.Words.{length-extents}
 use Rattle.checks.proofs.OperationReasons.{is-unknown}
-use Rattle.checks.proofs.Steps.{none-fails, by-steps, andThen}
+use Rattle.checks.proofs.Steps.{none-fails, checked-steps, by-steps, andThen}
 use Rattle.request.specs.Judge.{Judged, emptyStart, discardStart, dataStart}
 
 -- ---- what a request is that is known, of a right amount, and no discard
@@ -108,20 +108,16 @@ module _ (p : Params) (r : Request) (h : firstFailed (operationChecks p r) ≡ C
 
   amount : wrongAmount r ≡ false
   unfolding operationChecks
-  amount = none-fails (operationChecks p r) 4 h
+  amount = none-fails (operationChecks p r) 3 h
 
   -- 28 and 29, or the plan
   range-verdict : (grants : List ℕ) → firstFailed (segmentChecks grants r) ≡ Checked.Passed → movesNothing r ≡ false
-      → verdictOf p grants r ≡ decided (planOf r) (firstFailed (diskChecks p (r .start) (countOf r) (dataSegments r)))
+      → verdictOf p grants r ≡ decided (planOf p r) (firstFailed (diskChecks p (r .start) (countOf r) (dataSegments r)))
   range-verdict grants s m = by-steps p grants r ∙ rw (h, s, m)
 
 -- ---- a discard
 
-module _ (p : Params) (grants : List ℕ) (r : Request) (h : firstFailed (operationChecks p r) ≡ Checked.Passed) (o : r .pair .operation ≡ 5) where
-  discard-segments : firstFailed (segmentChecks grants r) ≡ Checked.Passed
-  unfolding segmentChecks wrongSegment notGranted
-  discard-segments = rw o
-
+module _ (p : Params) (r : Request) (o : r .pair .operation ≡ 5) where
   discard-moves : movesNothing r ≡ false
   unfolding movesNothing isEmptyBarrier
   discard-moves = rw o
@@ -134,20 +130,32 @@ module _ (p : Params) (grants : List ℕ) (r : Request) (h : firstFailed (operat
   unfolding dataSegments
   discard-none = rw o
 
-  discard-plan : Verdict.Start (planOf r) ≡ discardStart (r .start) (r .sectors) (eqb (r .flag % 2) 1)
-  unfolding planOf asksSecure extentsOf
-  discard-plan = rw (discard-count, discard-moves, o)
-
-  pub discard-refused : (n : ℕ) (s : Status) → firstFailed (diskChecks p (r .start) (r .sectors) []) ≡ Checked.Refused n s → verdictOf p grants r ≡ Verdict.Refused n s
-  discard-refused n s e = range-verdict p r h grants discard-segments discard-moves ∙ rw (discard-count, discard-none, e)
-
-  pub discard-started : firstFailed (diskChecks p (r .start) (r .sectors) []) ≡ Checked.Passed
-      → verdictOf p grants r ≡ discardStart (r .start) (r .sectors) (eqb (r .flag % 2) 1)
-  discard-started e = range-verdict p r h grants discard-segments discard-moves ∙ rw (discard-count, discard-none, e) discard-plan
-
   pub discard-extents : extentsOf r ≡ []
   unfolding extentsOf
   discard-extents = rw o
+
+  pub discard-plan : Verdict.Start (planOf p r) ≡ discardStart (r .start) (r .sectors) (eqb (r .flag % 2) 1 && p .secure)
+  unfolding planOf isSecure asksSecure extentsOf
+  discard-plan = rw (discard-count, discard-moves, o)
+
+  module _ (grants : List ℕ) where
+    discard-segments : firstFailed (segmentChecks grants r) ≡ Checked.Passed
+    unfolding segmentChecks wrongSegment notGranted
+    discard-segments = rw o
+
+    -- 21 to 25, then 28 and 29
+    pub discard-checked : firstFailed (checks p grants r) ≡ andThen (firstFailed (operationChecks p r)) (firstFailed (diskChecks p (r .start) (r .sectors) []))
+    discard-checked = checked-steps p grants r ∙ rw (discard-segments, discard-moves, discard-count, discard-none)
+
+    module _ (h : firstFailed (operationChecks p r) ≡ Checked.Passed) where
+      pub discard-refused : (n : ℕ) (s : Status) → firstFailed (diskChecks p (r .start) (r .sectors) []) ≡ Checked.Refused n s → verdictOf p grants r ≡ Verdict.Refused n s
+      unfolding verdictOf
+      discard-refused n s e = rw (discard-checked, h, e)
+
+      pub discard-started : firstFailed (diskChecks p (r .start) (r .sectors) []) ≡ Checked.Passed
+          → verdictOf p grants r ≡ discardStart (r .start) (r .sectors) (eqb (r .flag % 2) 1 && p .secure)
+      unfolding verdictOf
+      discard-started e = rw (discard-checked, h, e) discard-plan
 
 -- ---- a flush or an empty barrier
 
@@ -160,8 +168,8 @@ module _ (p : Params) (grants : List ℕ) (r : Request) (h : firstFailed (operat
   unfolding segmentChecks wrongSegment notGranted all
   empty-segments = rw (ne-eqb (r .pair .operation) 5 d, moves-nothing r (known p r h) (amount p r h) d k, e)
 
-  empty-plan : Verdict.Start (planOf r) ≡ emptyStart (r .pair .operation)
-  unfolding planOf countOf asksSecure
+  empty-plan : Verdict.Start (planOf p r) ≡ emptyStart (r .pair .operation)
+  unfolding planOf countOf isSecure asksSecure
   empty-plan = rw (moves-nothing r (known p r h) (amount p r h) d k, empty-extents, ne-eqb (r .pair .operation) 5 d)
 
   pub empty-started : verdictOf p grants r ≡ emptyStart (r .pair .operation)
@@ -191,7 +199,7 @@ module _ (p : Params) (grants : List ℕ) (r : Request) (h : firstFailed (operat
         (faulty (all isWithinFrame (r .segments)) (all (isGranted grants (r .pair .operation)) (r .segments)) _ (sym (passes-each grants (r .pair .operation) (r .segments)) ∙ e))
       where
         faulty : (w g : Bool) (rest : Checked) → w && g ≡ false
-            → decided (planOf r) (andThen (cond (not w) (Checked.Refused 26 Status.Error) (cond (not g) (Checked.Refused 27 Status.Error) Checked.Passed)) rest)
+            → decided (planOf p r) (andThen (cond (not w) (Checked.Refused 26 Status.Error) (cond (not g) (Checked.Refused 27 Status.Error) Checked.Passed)) rest)
             ≡ Verdict.Refused (cond w 27 26) Status.Error
         faulty true true rest z = clash refl z
         faulty true false rest z = refl
@@ -210,8 +218,8 @@ module _ (p : Params) (grants : List ℕ) (r : Request) (h : firstFailed (operat
       unfolding dataSegments
       data-all = rw (ne-eqb (r .pair .operation) 5 d)
 
-      data-plan : Verdict.Start (planOf r) ≡ dataStart (r .pair .operation) (r .start) (totalSectors (r .segments)) (length (r .segments))
-      unfolding planOf asksSecure
+      data-plan : Verdict.Start (planOf p r) ≡ dataStart (r .pair .operation) (r .start) (totalSectors (r .segments)) (length (r .segments))
+      unfolding planOf isSecure asksSecure
       data-plan = rw (data-count, data-moves, data-extents, ne-eqb (r .pair .operation) 5 d, length-extents (r .start) (r .segments))
 
       pub data-refused : (n : ℕ) (s : Status) → firstFailed (diskChecks p (r .start) (totalSectors (r .segments)) (r .segments)) ≡ Checked.Refused n s
@@ -224,11 +232,11 @@ module _ (p : Params) (grants : List ℕ) (r : Request) (h : firstFailed (operat
 
 -- ---- the promise
 
--- plans whose numbers are the same
-pub same-start : (operation : ℕ) (secure : Bool) {s t k l m n : ℕ} → s ≡ t → k ≡ l → m ≡ n
-    → Verdict.Start (record { operation = operation; start = s; count = k; secure = secure; extents = m })
-    ≡ Verdict.Start (record { operation = operation; start = t; count = l; secure = secure; extents = n })
-same-start operation secure a b c = rw (a, b, c)
+-- plans whose fields are the same
+pub same-start : (operation : ℕ) {s t k l m n : ℕ} {f g : Bool} → s ≡ t → k ≡ l → f ≡ g → m ≡ n
+    → Verdict.Start (record { operation = operation; start = s; count = k; secure = f; extents = m })
+    ≡ Verdict.Start (record { operation = operation; start = t; count = l; secure = g; extents = n })
+same-start operation a b c d = rw (a, b, c, d)
 
 module _ (p : Params) (grants slot : List ℕ) (v : Verdict) (words : List ℕ) where
   pub judged-refused : (n : ℕ) (s : Status) → verdictOf p grants (requestIn slot) ≡ Verdict.Refused n s → v ≡ Verdict.Refused n s → words ≡ noWords → Judged p grants slot v words

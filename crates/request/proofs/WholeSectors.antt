@@ -56,7 +56,7 @@ module _ (p : Params) (l : Layout) (grants slot : List ℕ) (plan : Plan) (e : v
   unfolding dataSegments checks operationChecks segmentChecks diskChecks unaligned
   kept d k =
       ends (isAligned (p .sector) (r .start)) (isAligned (p .sector) (countOf r)) (all (isOnBoundaries (p .sector)) (r .segments))
-      (rw (moves r (known p l grants slot plan e) (amount p l grants slot plan e) d k, ne-eqb (r .pair .operation) 5 d) at (none-fails (checks p grants r) 8 (all-passed p grants r plan e .0)))
+      (rw (moves r (known p l grants slot plan e) (amount p l grants slot plan e) d k, ne-eqb (r .pair .operation) 5 d) at (none-fails (checks p grants r) 7 (all-passed p grants r plan e .0)))
     where
       ends : (a b c : Bool) → not (a && b && c) ≡ false → (a ≡ true) × (c ≡ true)
       ends true true true h = (refl, refl)

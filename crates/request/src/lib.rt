@@ -15,10 +15,10 @@ use model::operation::DISCARD;
 use model::reason::READ_ONLY;
 use model::reason::UNALIGNED;
 use segments::Counted;
-ghost use mathlib.Core.Bool.{true, cond};
+ghost use mathlib.Core.Bool.{true, _&&_};
 ghost use mathlib.Core.Path.{_≡_};
-ghost use Prim.Native.Nat.{_≤_};
-ghost use lib.Dec.{ltb};
+ghost use Prim.Native.Nat.{_%_, _≤_};
+ghost use lib.Dec.{eqb};
 ghost use lib.ListN.{length, getD};
 ghost use Rattle.model.specs.Base.{all};
 ghost use Rattle.model.specs.Buffers.{grantShare};
@@ -26,9 +26,9 @@ ghost use Rattle.model.specs.Checks.{maxSegments, isWithinFrame, totalSectors, 
 ghost use Rattle.model.specs.Plan.{planWords, noWords};
 ghost use Rattle.model.specs.Ring.{requestOperationAt, requestCountAt, discard, segmentsOf};
 ghost use Rattle.layout.specs.Copy.{copyLayout, requestIn};
-ghost use Rattle.model.specs.declared.Status.{Status as Due};
 ghost use Rattle.model.specs.declared.Verdict.{Verdict as Judgement};
 ghost use Rattle.checks.specs.Operations.{operationReason};
+ghost use Rattle.checks.specs.Reasons.{statusFor};
 ghost use Rattle.request.specs.Judge.{Judged, emptyStart, discardStart, dataStart};
 
 // What the guest tells this request apart by: its id and operation.
@@ -52,7 +52,7 @@ fn refuse(reason: u32, status: Status, words: &mut [u64]) -> Verdict
 
 // The status that goes with a reason of the checks 21 to 25.
 fn status_of(reason: u32) -> Status
-    ensures { λ r. ⌜ r ≡ cond (ltb reason 24) Due.NotSupported Due.Error ⌝ }
+    ensures { λ r. ⌜ r ≡ statusFor reason ⌝ }
 {
     if reason < READ_ONLY {
         return Status::NotSupported;
@@ -107,6 +107,16 @@ fn start_data(operation: u8, start: u64, count: u64, extents: u64) -> Verdict
     })
 }
 
+// A discard's secure mark: bit 0 of its flag, where the disk offers secure discards.
+fn is_secure(flag: u8, offered: bool) -> bool
+    ensures { λ r. ⌜ r ≡ (eqb (flag % 2) 1 && offered) ⌝ }
+{
+    if flag % 2 == 1 {
+        return offered;
+    }
+    false
+}
+
 // A discard that passed the checks 21 to 25.
 fn discard(params: Params, slot: &[u8; SLOT_BYTES], grants: &[u8], words: &mut [u64]) -> Verdict
     requires { ⌜ (operationReason params (requestIn (now slot)) ≡ 0) × (getD (now slot) requestOperationAt 0 ≡ discard) × (length (now words) ≡ planWords) ⌝ }
@@ -121,10 +131,8 @@ fn discard(params: Params, slot: &[u8; SLOT_BYTES], grants: &[u8], words: &mut [
         }
         Checked::Passed => {
             extents::no_extents(words);
-            if slot[REQUEST_COUNT] % 2 == 1 {
-                return start_discard(start, count, true);
-            }
-            return start_discard(start, count, false);
+            let secure = is_secure(slot[REQUEST_COUNT], params.secure);
+            return start_discard(start, count, secure);
         }
     }
 }

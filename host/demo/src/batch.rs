@@ -114,7 +114,7 @@ impl Batch<'_> {
     }
 
     pub fn add_flush(&mut self) {
-        let status = self.status_due(FLUSH, false);
+        let status = self.status_due(FLUSH);
         let flush = self.wish(FLUSH, 0, With::Segments(vec![]));
         self.push(flush, status, None);
     }
@@ -146,7 +146,7 @@ impl Batch<'_> {
     /// Adds a read, write or barrier, with the bytes that it takes along or is to replace.
     fn add_moving(&mut self, operation: u8, start: u64, segments: Vec<Segment>) {
         let count = sectors_of(&segments);
-        let mut status = self.status_due(operation, false);
+        let mut status = self.status_due(operation);
         if status == OKAY && overlap(&self.profile.bad, &(start..start + count)) {
             status = ERROR;
         }
@@ -196,7 +196,7 @@ impl Batch<'_> {
         let Some(start) = self.free_range(count, true, false) else {
             return;
         };
-        let mut status = self.status_due(DISCARD, secure);
+        let mut status = self.status_due(DISCARD);
         if status == OKAY && !self.profile.discards {
             status = NOT_SUPPORTED;
         } else if status == OKAY {
@@ -266,12 +266,13 @@ impl Batch<'_> {
     }
 
     /// What a guest that knows its disk expects of a sound request.
-    fn status_due(&self, operation: u8, secure: bool) -> Status {
+    fn status_due(&self, operation: u8) -> Status {
         let sheet = &self.profile.sheet;
         let supported = match operation {
             BARRIER => sheet.barrier,
             FLUSH => sheet.flush,
-            DISCARD => sheet.discard && (sheet.secure_discard || !secure),
+            // Secure ones too: a disk that has none makes plain ones of them.
+            DISCARD => sheet.discard,
             _ => true,
         };
         match operation {

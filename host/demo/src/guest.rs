@@ -9,7 +9,7 @@ use crate::report::Checks;
 use frontend::EventChannel;
 use generate::Random;
 use kernelharp::layout::SLOTS;
-use kernelharp::Refusal;
+use kernelharp::{Refusal, Status};
 use std::collections::HashMap;
 use std::sync::atomic::Ordering;
 
@@ -174,6 +174,9 @@ impl<'a> Guest<'a> {
         }
         self.checks.bytes += job.check(&self.link.frames, &self.model)?;
         self.checks.own.count_answer(job.status);
+        if job.wish.is_secure() && job.status == Status::Okay {
+            self.checks.count_secure(&self.profile.sheet);
+        }
         Ok(())
     }
 }

@@ -5,13 +5,13 @@ use crate::pattern::SECTOR;
 use crate::profile::Profile;
 use crate::tally::Tally;
 use kernelharp::layout::PORTS;
-use kernelharp::{Done, Meter, Plan, Reason, Status};
+use kernelharp::{Done, Meter, Plan, Reason, Sheet, Status};
 use std::io::{self, IsTerminal, Write};
 use std::sync::atomic::Ordering;
 use std::time::{Duration, Instant};
 
 const MEBIBYTE: f64 = 1_048_576.0;
-/// Reasons are numbered in a row.
+/// Reasons are numbered in a row, in which one is withdrawn.
 const FIRST_REASON: usize = Reason::UnknownOperation as usize;
 const REASONS: usize = Reason::Unaligned as usize - FIRST_REASON + 1;
 
@@ -26,15 +26,26 @@ pub struct Checks {
     /// Requests that went through the library's guest's half, and those that it refused.
     pub put_by_library: u64,
     pub refused_by_library: u64,
+    /// Discards done that were asked to be secure: those due as such, and those due as plain ones.
+    pub secure: u64,
+    pub secure_as_plain: u64,
 }
 
 impl Checks {
+    /// Counts a discard that was asked to be secure: it is so where the disk has such ones.
+    pub fn count_secure(&mut self, sheet: &Sheet) {
+        self.secure += u64::from(sheet.secure_discard);
+        self.secure_as_plain += u64::from(!sheet.secure_discard);
+    }
+
     fn add(&mut self, other: &Checks) {
         self.own.add(&other.own.0);
         self.bytes += other.bytes;
         self.days_rolled += other.days_rolled;
         self.put_by_library += other.put_by_library;
         self.refused_by_library += other.refused_by_library;
+        self.secure += other.secure;
+        self.secure_as_plain += other.secure_as_plain;
     }
 }
 
@@ -52,6 +63,8 @@ pub struct PortCounts {
     pub completions_refused: u64,
     /// Sectors moved between frames and disk.
     pub sectors: u64,
+    /// Plans with the secure mark that were carried out.
+    pub secure: u64,
 }
 
 impl PortCounts {
@@ -64,8 +77,11 @@ impl PortCounts {
     pub fn count_completed(&mut self, plan: &Plan, result: i32, done: Done) {
         self.completed += 1;
         self.own.count_answer(done.status);
-        if result == plan.expected_result() && !plan.extents().is_empty() {
-            self.sectors += plan.count;
+        if result == plan.expected_result() {
+            self.secure += u64::from(plan.secure);
+            if !plan.extents().is_empty() {
+                self.sectors += plan.count;
+            }
         }
     }
 
@@ -79,6 +95,7 @@ impl PortCounts {
         self.overruns += other.overruns;
         self.completions_refused += other.completions_refused;
         self.sectors += other.sectors;
+        self.secure += other.secure;
     }
 }
 
@@ -205,10 +222,17 @@ fn print_row(head: &str, counts: &PortCounts, checks: &Checks) {
 fn print_sums(counts: &Counts, checks: &Checks) {
     let total = counts.total();
     print!("refused by reason:");
-    for (reason, count) in (FIRST_REASON..).zip(total.refused) {
-        print!("  {reason}: {count}");
+    for (number, count) in (FIRST_REASON as u32..).zip(total.refused) {
+        match Reason::from_number(number) {
+            Some(_) => print!("  {number}: {count}"),
+            None => print!("  {number}: {}", Reason::text(number)),
+        }
     }
     println!();
+    println!(
+        "secure discards: {} done as such, {} as plain ones on a disk without discard-secure",
+        total.secure, checks.secure_as_plain
+    );
     println!(
         "turns: {} ({} idle, the host slept {} times)",
         counts.turns, counts.idle, counts.sleeps

@@ -28,6 +28,7 @@ pub fn demo(folder: &Path, seed: u64, rounds: u64) -> Result<(), String> {
     let (counts, ends) = play(&profiles, &mut disks, models, seed, rounds)?;
     let checks: Vec<Checks> = ends.iter().map(|end| end.0).collect();
     print_table(&profiles, &counts, &checks);
+    check_secure(&counts, &ends)?;
     check_meters(&counts, &ends)?;
     println!(
         "meters: as the host and the guests counted, half of them zeroed at each of {} period ends",
@@ -125,6 +126,17 @@ fn disks(folder: &Path, profiles: &[Profile], models: &[Model]) -> Result<Vec<Di
     Ok(disks)
 }
 
+/// Holds the plans with the secure mark against the secure discards that the guests are due.
+fn check_secure(counts: &Counts, ends: &[End]) -> Result<(), String> {
+    for (port, (counts, (checks, model))) in counts.ports.iter().zip(ends).enumerate() {
+        let (done, due) = (counts.secure, checks.secure);
+        if model.is_some() && done != due {
+            return Err(format!("port {port}: {done} secure discards, {due} due"));
+        }
+    }
+    Ok(())
+}
+
 /// Holds what the meters said against the host's own count, and the guest's where it has one.
 fn check_meters(counts: &Counts, ends: &[End]) -> Result<(), String> {
     for (port, (counts, (checks, model))) in counts.ports.iter().zip(ends).enumerate() {
@@ -194,6 +206,21 @@ mod tests {
             ends[5] = (Checks::default(), None);
             check_meters(&counts, &ends).unwrap();
         }
+    }
+
+    #[test]
+    fn a_secure_discard_is_found_that_is_not_due() {
+        let models = models(1, &profiles()).into_iter();
+        let mut ends: Vec<End> = models.map(|it| (Checks::default(), Some(it))).collect();
+        let mut counts = Counts::default();
+        check_secure(&counts, &ends).unwrap();
+        counts.ports[3].secure = 1;
+        ends[3].0.secure_as_plain = 1;
+        let fault = check_secure(&counts, &ends).unwrap_err();
+        assert_eq!(fault, "port 3: 1 secure discards, 0 due");
+        // A hostile guest counts nothing.
+        ends[3].1 = None;
+        check_secure(&counts, &ends).unwrap();
     }
 
     /// The host's medium has a bad sector that the guest does not know of.

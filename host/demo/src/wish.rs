@@ -22,6 +22,11 @@ pub enum With {
 }
 
 impl Wish {
+    /// Whether it is a discard that is to leave nothing to be read.
+    pub fn is_secure(&self) -> bool {
+        matches!(self.with, With::Sectors { secure: true, .. })
+    }
+
     /// For the library's guest's half; none where its types have no such request.
     pub fn typed(&self) -> Option<Request<'_>> {
         let Wish { id, start, .. } = *self;

@@ -73,8 +73,11 @@ fn the_demo_runs_small() {
     for (number, pair) in (21..=29).zip(reasons.chunks(2)) {
         assert_eq!(pair[0], number.to_string());
         assert_ne!(pair[1], "0", "reason {number} did not occur");
+        assert_eq!(pair[1] == "withdrawn", number == 23);
     }
     assert_eq!(reasons.len(), 18);
+    let secure = line(&text, "secure discards: ");
+    assert!(!secure.contains(" 0 "), "{secure}");
     line(&text, "days rolled by the boards: 2,");
     let halves = line(&text, "guest's half: ");
     assert!(!halves.contains(" 0 "), "{halves}");

@@ -3,11 +3,13 @@
 mod boundaries;
 mod classes;
 mod completions;
+mod discards;
 mod meters;
 mod sheets;
 mod turns;
 
 use self::classes::expected_classes;
+pub(crate) use self::discards::{end_of, flag_of};
 use self::sheets::{opened_classes, sheet_faults};
 use crate::tally::Tally;
 use crate::{Buffer, Write};

@@ -3,13 +3,15 @@
 
 mod generator;
 
+use crate::census::{end_of, flag_of};
 use crate::guest::{compare_guests, GuestProgram};
+use crate::requests::DISCARD;
 use crate::run::{at_fault, compare, run_list, Failure, Program};
 use crate::tally::Tally;
 use crate::{Core, GuestCall, GuestCore, GuestOutcome, Outcome, Step};
 use generator::HalvesGenerator;
 use history::{Event, HalvesEvent, HalvesHistory, History};
-use kernelharp::layout::{page, page_mut, SLOTS};
+use kernelharp::layout::{page, page_mut, Abi, SLOTS};
 use kernelharp::words::{collect, done, kind, request, turn, TurnWords};
 
 /// One pair of programs.
@@ -170,9 +172,12 @@ fn classes() -> Vec<String> {
         let statuses = ["0", "ffff", "fffe"];
         classes.extend(statuses.map(|status| collected_class(operation, status)));
     }
-    for reason in [22, 23, 24, 27, 28, 29] {
+    for reason in [22, 24, 27, 28, 29] {
         classes.push(format!("answered {reason}"));
     }
+    // A guest sets no other bit of the flag.
+    let discards = [(false, 0), (false, 1), (true, 1)];
+    classes.extend(discards.map(|(secure_mark, flag)| discard_class(secure_mark, flag)));
     for code in [1, 31, 32, 33] {
         classes.push(format!("put refused {code:02}"));
     }
@@ -202,6 +207,11 @@ const CLASSES: &[&str] = &[
 
 fn collected_class(operation: u64, status: &str) -> String {
     format!("collected, operation {operation}, status {status}")
+}
+
+fn discard_class(secure_mark: bool, flag: u8) -> String {
+    let (end, flag) = (end_of(0, secure_mark), flag_of(flag));
+    format!("{end}, operation {DISCARD}, {flag}")
 }
 
 fn note_guest(tally: &mut Tally, halves: &HalvesHistory, call: &GuestCall, outcome: &GuestOutcome) {
@@ -234,7 +244,10 @@ fn note_guest(tally: &mut Tally, halves: &HalvesHistory, call: &GuestCall, outco
 fn note_backend(tally: &mut Tally, halves: &HalvesHistory, port: usize, event: &Event) {
     match *event {
         Event::Turn { code, .. } if code != 0 => tally.tick(&format!("turn refused {code:02}")),
-        Event::Turn { answer, .. } => note_turn(tally, halves, port, answer),
+        Event::Turn { lent, answer, .. } => {
+            let slot = &page(lent, port)[Abi::Bits64.slot_at(halves.taken())..];
+            note_turn(tally, halves, port, slot, answer);
+        }
         Event::Complete {
             port: named,
             code: 0,
@@ -248,7 +261,14 @@ fn note_backend(tally: &mut Tally, halves: &HalvesHistory, port: usize, event: &
     }
 }
 
-fn note_turn(tally: &mut Tally, halves: &HalvesHistory, port: usize, answer: &TurnWords) {
+/// Counts a turn, with the slot that the port's next request is in.
+fn note_turn(
+    tally: &mut Tally,
+    halves: &HalvesHistory,
+    port: usize,
+    slot: &[u8],
+    answer: &TurnWords,
+) {
     let [waiting, in_flight, _] = halves.outstanding();
     let ours = answer[turn::PORT] == port as u64;
     match answer[turn::KIND] {
@@ -257,11 +277,19 @@ fn note_turn(tally: &mut Tally, halves: &HalvesHistory, port: usize, answer: &Tu
             let waits = halves.is_open() && waiting > 0;
             tally.tick_if(waits, "another port served while a request waits");
         }
-        kind::STARTED => tally.tick(&format!("started, operation {}", answer[turn::OPERATION])),
+        kind::STARTED => note_start(tally, slot[1], answer),
         kind::ANSWERED => tally.tick(&format!("answered {}", answer[turn::REASON])),
         _ => {}
     }
     tally.tick_if(ours && halves.taken() > 1000, "taken beyond request 1000");
+}
+
+fn note_start(tally: &mut Tally, flag: u8, answer: &TurnWords) {
+    let operation = answer[turn::OPERATION];
+    tally.tick(&format!("started, operation {operation}"));
+    if operation == u64::from(DISCARD) {
+        tally.tick(&discard_class(answer[turn::SECURE] == 1, flag));
+    }
 }
 
 fn note_full(tally: &mut Tally, halves: &HalvesHistory) {

@@ -70,7 +70,7 @@ pub fn any_request(
         return noise(random, abi);
     }
     // There are more ways to fail at 29 than at any other check.
-    let number = (21 + random.below(12)).min(29);
+    let number = random.pick(&[21, 22, 24, 25, 26, 27, 28, 29, 29, 29, 29]);
     let mut draft = faulty_operation(random, number, disk, grants);
     spoil(random, number, &mut draft, disk, grants);
     // A second fault shows the order of the checks.
@@ -98,7 +98,7 @@ fn noise(random: &mut Random, abi: Abi) -> Vec<u8> {
     slot
 }
 
-/// The operations that the disk lets pass checks 22 to 24.
+/// The operations that the disk lets pass checks 22 and 24.
 fn allowed_operations(disk: &Disk) -> Vec<u8> {
     let mut allowed = vec![READ, READ];
     if disk.writable {
@@ -139,7 +139,6 @@ fn faulty_operation(random: &mut Random, number: u64, disk: &Disk, grants: &[u8]
                 (DISCARD, disk.discard),
             ],
         ),
-        23 if disk.discard && !disk.secure => vec![DISCARD],
         24 if !disk.writable => having(
             true,
             [
@@ -162,14 +161,7 @@ fn faulty_operation(random: &mut Random, number: u64, disk: &Disk, grants: &[u8]
         candidates = allowed_operations(disk);
     }
     let operation = random.pick(&candidates);
-    let mut draft = draft(random, operation, disk, grants);
-    if operation == DISCARD {
-        draft.count_or_flag = random.byte() & !1;
-        if number == 23 || disk.secure && random.chance(50) {
-            draft.count_or_flag |= 1;
-        }
-    }
-    draft
+    draft(random, operation, disk, grants)
 }
 
 /// A draft that passes checks 25 to 29, if the disk is large enough.
@@ -184,10 +176,9 @@ pub fn draft(random: &mut Random, operation: u8, disk: &Disk, grants: &[u8]) -> 
     match operation {
         FLUSH => {}
         DISCARD => {
-            draft.count_or_flag = random.byte() & !1;
-            if disk.secure && random.chance(50) {
-                draft.count_or_flag |= 1;
-            }
+            // No flag is at fault, whatever the disk's discard-secure.
+            let any = random.byte();
+            draft.count_or_flag = random.pick(&[0, 1, any, any]);
             draft.discard_count = aligned_up_to(random, disk.sectors, disk.unit());
             draft.discard_count = draft.discard_count.max(disk.unit());
             draft.start = place(random, draft.discard_count, disk);

@@ -66,6 +66,8 @@ pub struct HalvesHistory {
     page: Vec<u8>,
     opened: bool,
     closed: bool,
+    /// What the port's sheet says of it.
+    discard_secure: bool,
     /// Put and not taken.
     waiting: VecDeque<Request>,
     /// Taken and not answered, by tag.
@@ -84,6 +86,7 @@ impl HalvesHistory {
             page: vec![0; RING_BYTES],
             opened: false,
             closed: false,
+            discard_secure: false,
             waiting: VecDeque::new(),
             started: HashMap::new(),
             responses: VecDeque::new(),
@@ -241,6 +244,7 @@ impl HalvesHistory {
             return Err("the port is a 64-bit one that is opened once".into());
         }
         self.opened = true;
+        self.discard_secure = sheet::discard_secure(sheet);
         Ok(())
     }
 
@@ -260,7 +264,7 @@ impl HalvesHistory {
             kind::OVERRUN if ours => Err("an overrun".into()),
             kind::STARTED if ours => {
                 let request = self.take(lent)?;
-                request.check_plan(answer)?;
+                request.check_plan(self.discard_secure, answer)?;
                 match self.started.insert(answer[turn::TAG], request) {
                     Some(_) => Err("a tag is named twice".into()),
                     None => Ok(()),

@@ -1,5 +1,6 @@
 //! Whether a node sheet opens a port, and what it is refused with if not (rules 7.11 to 7.15). Of what
-//! it says, demand 3 asks for the layout alone: where a pair is read depends on it.
+//! it says, demand 3 asks for the layout alone: where a pair is read depends on it. What is claimed of
+//! both halves asks for discard-secure too: the secure mark depends on it.
 
 use crate::page::Layout;
 use crate::refusal::{NONE, SHEET_MISSING, SHEET_NODES, SHEET_NUMBER, SHEET_SHAPE, SHEET_TEXT};
@@ -39,13 +40,22 @@ pub fn refusal_due(sheet: &[u8]) -> u32 {
 
 /// The layout of a sheet that opens a port (rule 3.5).
 pub fn layout(sheet: &[u8]) -> Layout {
-    let bodies = bodies(sheet).unwrap_or_default();
-    let mut protocol = bodies.into_iter().filter(|(node, _)| *node == 8);
-    if protocol.any(|(_, body)| sheet[body] == *BITS_32) {
+    if says(sheet, 8, BITS_32) {
         Layout::Bits32
     } else {
         Layout::Bits64
     }
+}
+
+/// Whether discard-secure is 1 in a sheet that opens a port (rule 3.5).
+pub fn discard_secure(sheet: &[u8]) -> bool {
+    says(sheet, 5, b"1")
+}
+
+/// Whether a node is there with this text.
+fn says(sheet: &[u8], node: u8, text: &[u8]) -> bool {
+    let mut bodies = bodies(sheet).unwrap_or_default().into_iter();
+    bodies.any(|(there, body)| there == node && sheet[body] == *text)
 }
 
 /// Each entry's node, and where its body lies; nothing for a sheet of another shape.
@@ -164,6 +174,19 @@ mod tests {
         for text in ["", "x86_32-ab", "x86_32-abi ", "X86_32-abi", "x86_31-abi"] {
             assert_eq!(refusal_due(&with_protocol(text)), SHEET_TEXT, "{text:?}");
         }
+    }
+
+    #[test]
+    fn discard_secure_is_1_or_else_0() {
+        let with_node_5 = |text: &str| {
+            let head = b"\x04\x01\0\x01\0\x05\0\x01\0\x06\0\x03\0\x07\0\x01\0w";
+            [&head[..], text.as_bytes(), b"5129"].concat()
+        };
+        for (text, due) in [("0", false), ("1", true)] {
+            let sheet = with_node_5(text);
+            assert_eq!((refusal_due(&sheet), discard_secure(&sheet)), (NONE, due));
+        }
+        assert!(!discard_secure(SHEET_OF_21));
     }
 
     #[test]

@@ -42,7 +42,8 @@ pub struct Plan {
     pub start: u64,
     /// How many sectors.
     pub count: u64,
-    /// A discard that must leave nothing to be read.
+    /// A discard that must leave nothing to be read: the guest asked for it, and discard-secure
+    /// is 1.
     pub secure: bool,
     extents: [Extent; EXTENTS],
     used: usize,
@@ -241,7 +242,7 @@ mod tests {
             (turn::NOTIFY, 1),
         ];
         let due =
-            "answered port 1: reason 27: a frame not granted as needed, status -1 (error), notify";
+            "answered port 1: reason 27: a frame without the grant that it takes, status -1 (error), notify";
         printed(&answered, due);
         let started = [
             (turn::KIND, kind::STARTED),

@@ -10,7 +10,7 @@ use std::sync::atomic::AtomicU32;
 
 /// The version that this package was built for, as `kh_version` gives it: major x 10,000 + minor x
 /// 100 + patch.
-pub const VERSION: u32 = 600;
+pub const VERSION: u32 = 700;
 /// How many words of backend memory this package was built for (`KH_MEMORY_WORDS`).
 pub const MEMORY_WORDS: usize = 1121;
 /// How many words of guest memory this package was built for (`KH_GUEST_WORDS`).

@@ -66,7 +66,8 @@ pub enum Request<'a> {
         start: u64,
         /// How many, at least one.
         sectors: u64,
-        /// Whether nothing of them may be left to be read.
+        /// Whether nothing of them may be left to be read. A disk whose discard-secure is 0
+        /// makes a plain discard of it, and the response is the same.
         secure: bool,
     },
 }

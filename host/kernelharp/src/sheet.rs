@@ -20,7 +20,7 @@ pub struct Sheet {
     pub flush: bool,
     /// Node feature-discard.
     pub discard: bool,
-    /// Node discard-secure.
+    /// Node discard-secure. Without it, secure discards are taken for plain ones.
     pub secure_discard: bool,
     /// Node sector-size: 512, 1024, 2048 or 4096.
     pub sector_size: u32,

@@ -68,27 +68,34 @@ impl std::error::Error for Refusal {}
 
 numbered! {
     /// Why a guest's request gets its response at once and does not start (section 8 of the
-    /// rules).
+    /// rules). 23 is withdrawn and never given.
     Reason, "reason":
     UnknownOperation = 21, "unknown operation";
-    FeatureOff = 22, "the feature of a barrier, flush or discard is 0";
-    SecureOff = 23, "secure discard, and discard-secure is 0";
-    ReadOnly = 24, "write, barrier or discard, mode r";
-    WrongAmount = 25, "n out of range for the operation, or a discard of 0 sectors";
-    WrongSegment = 26, "a segment without first <= last <= 7";
-    NotGranted = 27, "a frame not granted as needed";
-    PastEnd = 28, "start + count above sectors, as whole numbers";
-    Unaligned = 29, "start, count, or where a segment begins or ends, not divisible by sector-size / 512";
+    FeatureOff = 22, "an operation whose feature the disk does not have";
+    ReadOnly = 24, "a request that writes, on a read-only disk";
+    WrongAmount = 25, "a wrong number of segments, or nothing to discard";
+    WrongSegment = 26, "a segment that does not lie in its frame";
+    NotGranted = 27, "a frame without the grant that it takes";
+    PastEnd = 28, "past the end of the disk";
+    Unaligned = 29, "not in whole sectors of the disk";
 }
 
 impl Reason {
-    /// The status that goes with it: not supported for 21 to 23, error for the others.
+    /// The status that goes with it: not supported for 21 and 22, error for the others.
     pub fn status(self) -> Status {
         match self {
-            Reason::UnknownOperation | Reason::FeatureOff | Reason::SecureOff => {
-                Status::NotSupported
-            }
+            Reason::UnknownOperation | Reason::FeatureOff => Status::NotSupported,
             _ => Status::Error,
+        }
+    }
+
+    /// When the reason of a number is given, in short, for logs and tables: 23 reads
+    /// "withdrawn", a number that never was one "no reason".
+    pub fn text(number: u32) -> &'static str {
+        match (Reason::from_number(number), number) {
+            (Some(reason), _) => reason.words(),
+            (None, 23) => "withdrawn",
+            (None, _) => "no reason",
         }
     }
 }
@@ -196,7 +203,7 @@ mod tests {
             .filter_map(Reason::from_number)
             .map(|reason| reason as u32)
             .collect();
-        assert_eq!(reasons, [21, 22, 23, 24, 25, 26, 27, 28, 29]);
+        assert_eq!(reasons, [21, 22, 24, 25, 26, 27, 28, 29]);
         let statuses: Vec<i16> = (0..100)
             .filter_map(Status::from_magnitude)
             .map(|status| status as i16)
@@ -214,7 +221,19 @@ mod tests {
         let refusal: Box<dyn std::error::Error> = Box::new(Refusal::NotBusy);
         let due = "refusal 6: tag above 31, not busy, or another serial";
         assert_eq!(refusal.to_string(), due);
-        let reason = "reason 27: a frame not granted as needed";
+        let reason = "reason 27: a frame without the grant that it takes";
         assert_eq!(Reason::NotGranted.to_string(), reason);
+    }
+
+    #[test]
+    fn every_reason_has_its_text_and_23_is_withdrawn() {
+        for number in 0..100 {
+            let due = match number {
+                23 => "withdrawn",
+                21..=29 => Reason::from_number(number).expect("a reason").words(),
+                _ => "no reason",
+            };
+            assert_eq!(Reason::text(number), due, "{number}");
+        }
     }
 }

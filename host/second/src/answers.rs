@@ -30,7 +30,7 @@ pub struct Plan {
     pub start: u64,
     /// How many sectors.
     pub count: u64,
-    /// The secure mark.
+    /// The secure mark (rule 5.23).
     pub secure: bool,
     /// At most eleven.
     pub extents: Vec<Extent>,

@@ -31,9 +31,8 @@ type Check<'a> = fn(&Case<'a>) -> bool;
 pub fn judge(request: &Request, disk: &Disk, grants: &[u8]) -> Result<Work, Reason> {
     let operation = Operation::from_byte(request.operation).ok_or(Reason::UnknownOperation)?;
     let case = Case::new(operation, request, disk, grants);
-    let checks: [(Reason, Check); 8] = [
+    let checks: [(Reason, Check); 7] = [
         (Reason::FeatureOff, Case::feature_off),
-        (Reason::SecureOff, Case::secure_off),
         (Reason::ReadOnly, Case::read_only),
         (Reason::WrongAmount, Case::wrong_amount),
         (Reason::WrongSegment, Case::segment_unsound),
@@ -76,9 +75,10 @@ impl<'a> Case<'a> {
         }
     }
 
-    /// A discard whose flag has bit 0 set (rule 2.9).
+    /// Rules 2.9 and 5.23: a discard that asks for it, on a disk that has it.
     fn secure(&self) -> bool {
-        self.operation == Operation::Discard && self.request.count_or_flag & 1 == 1
+        let asked = self.request.count_or_flag & 1 == 1;
+        self.operation == Operation::Discard && asked && self.disk.secure
     }
 
     /// A discard's number of sectors (rule 2.8).
@@ -103,11 +103,6 @@ impl<'a> Case<'a> {
     /// 22: the operation's feature is off.
     fn feature_off(&self) -> bool {
         !self.disk.offers(self.operation)
-    }
-
-    /// 23: a secure discard where discard-secure is off.
-    fn secure_off(&self) -> bool {
-        self.secure() && !self.disk.secure
     }
 
     /// 24: something other than reading on a disk in mode r.
@@ -166,7 +161,7 @@ impl<'a> Case<'a> {
         range_unaligned || !self.segments.iter().all(|it| it.is_aligned(unit))
     }
 
-    /// Rules 5.24 and 5.25.
+    /// Rules 5.23 to 5.25.
     fn work(&self) -> Work {
         let (start, count) = self.disk_range().unwrap_or((0, 0));
         Work {

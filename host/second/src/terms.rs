@@ -37,15 +37,13 @@ pub enum Refusal {
     NotOutstanding = 35,
 }
 
-/// Section 8: the check that a request fails first.
+/// Section 8: the check that a request fails first. 23 is withdrawn (rule 8.23).
 #[derive(Clone, Copy, Debug, PartialEq, Eq)]
 pub enum Reason {
     /// Rule 8.21.
     UnknownOperation = 21,
     /// Rule 8.22.
     FeatureOff = 22,
-    /// Rule 8.23.
-    SecureOff = 23,
     /// Rule 8.24.
     ReadOnly = 24,
     /// Rule 8.25.
@@ -63,10 +61,9 @@ pub enum Reason {
 impl Reason {
     /// The status of the table in section 8.
     pub fn status(self) -> Status {
-        if (self as u32) < 24 {
-            Status::NotSupported
-        } else {
-            Status::Error
+        match self {
+            Reason::UnknownOperation | Reason::FeatureOff => Status::NotSupported,
+            _ => Status::Error,
         }
     }
 }

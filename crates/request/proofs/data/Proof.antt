@@ -1,7 +1,7 @@
 -- `request::data` meets its contract: what the pass found, then what the range's checks say, or the plan. Assumes nothing.
 use borrow.Author.Needs.{needs}
-use mathlib.Core.Path.{_≡_, sym, ap, _∙_}
-use mathlib.Core.Bool.{true, false}
+use mathlib.Core.Path.{_≡_, refl, sym, ap, _∙_}
+use mathlib.Core.Bool.{true}
 use mathlib.Core.List.{List}
 use Prim.Native.Nat.{ℕ, _+_, _^_, _<_, _≤_}
 use native.Mathlib.Omega.{arith}
@@ -17,7 +17,7 @@ use Rattle.segments.specs.Segments.{passes, Scanned}
 use Rattle.segments.proofs.Pass.{passes-within, scan-fault, scan-sectors, words-all}
 use Rattle.segments.proofs.Slot.{length-segments}
 use Rattle.checks.proofs.DiskRange.{passed-within}
-use Rattle.checks.proofs.Steps.{operation-passed}
+use Rattle.checks.proofs.Reasons.{operation-passed}
 use Rattle.request.proofs.Verdict.{data-few, data-fault, data-refused, data-started, data-extents, same-start, judged-refused, judged-start}
 use Rattle.request.proofs.data.Statement.{statement}
 use Rattle.request.proofs.data.Tie as tie
@@ -204,7 +204,7 @@ returns-3 c =
     let fits : r .start + totalSectors (r .segments) < 2 ^ 64 = omega (arith, passed-within p (r .start) (totalSectors (r .segments)) (r .segments) whole, o .good) in
     judged-start p g (a .slot .now) _ _ _
     (data-started p g r (passed o) (o .pre .2) (o .pre .3) (counted (k .before) .0) whole)
-    (c .start-data .ensures ∙ same-start _ false (begins x) (counted (k .before) .1) (n ∙ sym (long o)))
+    (c .start-data .ensures ∙ same-start _ (begins x) (counted (k .before) .1) refl (n ∙ sym (long o)))
     (rw n at (cleared .clear-from .ensures)
     ∙ words-all (r .start) (r .n) (r .segments) _ (long o) (few o) (rw (long o) at (found x .front (counted (k .before) .0) fits))
     ∙ ap (extentWords 11) (sym (data-extents p g r (passed o) (o .pre .2))))

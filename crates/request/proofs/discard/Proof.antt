@@ -1,15 +1,14 @@
 -- `request::discard` meets its contract: what the range's checks say, or the plan. Assumes nothing.
 use borrow.Author.Needs.{needs}
-use borrow.Author.Tests.{ne-eqb}
 use mathlib.Core.Path.{_≡_, refl, sym, ap, ap₂, _∙_}
 use mathlib.Core.List.{[]}
-use Prim.Native.Nat.{ℕ, _%_}
+use Prim.Native.Nat.{ℕ}
 use Rattle.model.specs.Ring.{Request, requestOf}
 use Rattle.layout.specs.Copy.{requestIn}
 use Rattle.model.specs.Checks.{operationChecks, diskChecks, firstFailed}
 use Rattle.model.specs.Plan.{extentWords}
 use Rattle.model.specs.declared.Checked.{Checked}
-use Rattle.checks.proofs.Steps.{operation-passed}
+use Rattle.checks.proofs.Reasons.{operation-passed}
 use Rattle.request.proofs.Verdict.{discard-refused, discard-started, discard-extents, same-start, judged-refused, judged-start}
 use Rattle.request.proofs.discard.Statement.{statement}
 use Rattle.request.proofs.discard.Tie as tie
@@ -62,7 +61,7 @@ returns c =
     let o = entry k in
     let a = o .args in
     judged-refused (a .params) (a .grants .now) (a .slot .now) _ _ _ _
-    (discard-refused (a .params) (a .grants .now) (asked o) (passed o) (o .pre .1) _ _ (sym (ranged k) ∙ done .before .before .before .range .given .1))
+    (discard-refused (a .params) (asked o) (o .pre .1) (a .grants .now) (passed o) _ _ (sym (ranged k) ∙ done .before .before .before .range .given .1))
     (done .refuse .ensures .0)
     (done .refuse .ensures .1)
 
@@ -72,8 +71,11 @@ enum-told c = search needs
 no-extents-requires : tie.Need-no-extents-requires
 no-extents-requires c κs = search needs
 
-element-copy-out-if1 : tie.Need-element-copy-out-if1
-element-copy-out-if1 c = search needs
+element-copy-out-is-secure : tie.Need-element-copy-out-is-secure
+element-copy-out-is-secure c = search needs
+
+is-secure-requires : tie.Need-is-secure-requires
+is-secure-requires c κs = search needs
 
 start-discard-requires : tie.Need-start-discard-requires
 start-discard-requires c κs = search needs
@@ -90,28 +92,9 @@ returns-2 c =
     let o = entry k in
     let a = o .args in
     judged-start (a .params) (a .grants .now) (a .slot .now) _ _ _
-    (discard-started (a .params) (a .grants .now) (asked o) (passed o) (o .pre .1) (sym (ranged k) ∙ told .enum-told .given .1))
-    (c .start-discard .ensures ∙ rw (c .before .if1 .taken) (same-start 5 _ (begins k) (counts k) refl))
-    (cleared .no-extents .ensures ∙ ap (extentWords 11) (sym (discard-extents (a .params) (a .grants .now) (asked o) (passed o) (o .pre .1))))
-
-start-discard-requires-2 : tie.Need-start-discard-requires-2
-start-discard-requires-2 c κs = search needs
-
-same-length-3 : tie.Need-same-length-3
-same-length-3 c = search needs
-
-returns-3 : tie.Need-returns-3
-unfolding requestOf extentWords
-returns-3 c =
-    let cleared = c .before .before .before .before .before in
-    let told = cleared .before .before in
-    let k = told .before .before in
-    let o = entry k in
-    let a = o .args in
-    judged-start (a .params) (a .grants .now) (a .slot .now) _ _ _
-    (discard-started (a .params) (a .grants .now) (asked o) (passed o) (o .pre .1) (sym (ranged k) ∙ told .enum-told .given .1))
-    (c .start-discard2 .ensures ∙ rw (ne-eqb (asked o .flag % 2) 1 (c .before .if1 .left)) (same-start 5 _ (begins k) (counts k) refl))
-    (cleared .no-extents .ensures ∙ ap (extentWords 11) (sym (discard-extents (a .params) (a .grants .now) (asked o) (passed o) (o .pre .1))))
+    (discard-started (a .params) (asked o) (o .pre .1) (a .grants .now) (passed o) (sym (ranged k) ∙ told .enum-told .given .1))
+    (c .start-discard .ensures ∙ same-start 5 (begins k) (counts k) (c .before .is-secure .ensures) refl)
+    (cleared .no-extents .ensures ∙ ap (extentWords 11) (sym (discard-extents (a .params) (asked o) (o .pre .1))))
 
 pub discard-spec : {M : Type 1} → statement M
 discard-spec =
@@ -126,10 +109,8 @@ discard-spec =
     returns
     enum-told
     no-extents-requires
-    element-copy-out-if1
+    element-copy-out-is-secure
+    is-secure-requires
     start-discard-requires
     same-length-2
-    returns-2
-    start-discard-requires-2
-    same-length-3
-    returns-3)
+    returns-2)

@@ -1,6 +1,7 @@
 //! What a long run should show.
 
 use super::boundaries::boundary_classes;
+use super::discards::{discard_classes, DISCARD_REASONS};
 use super::meters::{meter_classes, port_meter_classes};
 use super::sheets::{body_class, opened_by, protocol_fault, NUMBER, TEXT};
 use super::{class_of, reopened_class, served_after_class, LENGTHS};
@@ -13,7 +14,7 @@ const REASONS: [(u8, &[u64]); 5] = [
     (1, &[24, 25, 26, 27, 28, 29]),
     (2, &[22, 24, 25, 26, 27, 28, 29]),
     (3, &[22, 25]),
-    (5, &[22, 23, 24, 25, 28, 29]),
+    (5, DISCARD_REASONS),
 ];
 
 /// Every class that a long run should show.
@@ -59,11 +60,13 @@ fn port_classes() -> Vec<String> {
             classes.push(format!("answered {reason}, operation {operation}"));
         }
     }
-    classes.extend((21..=29).map(|reason| format!("answered {reason}")));
+    let reasons = [21, 22, 24, 25, 26, 27, 28, 29];
+    classes.extend(reasons.map(|reason| format!("answered {reason}")));
     classes.extend(Abi::ALL.map(reopened_class));
     classes.extend(Abi::ALL.map(served_after_class));
     classes.extend(port_meter_classes());
     classes.extend(boundary_classes());
+    classes.extend(discard_classes());
     classes
 }
 
@@ -166,7 +169,6 @@ const PORT_CLASSES: &[&str] = &[
     "started, discard above 2^32 sectors",
     "started, empty barrier",
     "started, frame 1023",
-    "started, secure discard",
     "started, tag 31",
     "started, tag come back",
     "started, up to the last sector",

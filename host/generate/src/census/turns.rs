@@ -55,8 +55,14 @@ impl Census {
             _ => return self.note_overrun(abi, ahead, in_flight),
         }
         self.note_boundaries(port, answer, slot, grants);
+        self.note_discards(port, answer, slot);
         self.tick_of_if(abi, ahead == 32 - in_flight, "served at the line");
         self.tick_of_if(abi, in_flight == 31, "served with 31 in flight");
+        self.note_index(abi, taken);
+    }
+
+    /// How far a ring has come.
+    fn note_index(&mut self, abi: Abi, taken: u32) {
         self.tick_of_if(abi, taken % 32 == 31, "served from slot 31");
         self.tick_of_if(abi, taken >= 32, "served beyond slot 31");
         self.tick_of_if(abi, taken >= 1000, "served beyond request 1000");
@@ -105,7 +111,6 @@ impl Census {
         let barrier = operation == Operation::Barrier as u64;
         self.tick_of_if(abi, barrier && extents == 0, "started, empty barrier");
         self.tick_of_if(abi, extents == 11, "started, 11 extents");
-        self.tick_of_if(abi, answer[turn::SECURE] == 1, "started, secure discard");
         self.tick_of_if(abi, tag == 31, "started, tag 31");
         let again = tag + 1 < serial && serial >= 32;
         self.tick_of_if(abi, again, "started, tag come back");

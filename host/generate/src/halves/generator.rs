@@ -181,9 +181,6 @@ impl HalvesGenerator {
         }
         let operation = random.pick(&[0, 0, 1, 1, 2, 3, 5]);
         let mut draft = draft(random, operation, &self.disk, grants);
-        if operation == 5 {
-            draft.count_or_flag = random.byte();
-        }
         if random.chance(25) {
             let number = 27 + random.below(3);
             spoil(random, number, &mut draft, &self.disk, grants);

@@ -89,14 +89,19 @@ impl Request {
         }
     }
 
-    /// That a plan asks for what the request does.
-    pub fn check_plan(&self, answer: &[u64; TURN_WORDS]) -> Result<(), String> {
+    /// That a plan asks for what the request does: where discard-secure is 0, for a plain discard
+    /// alone (rule 5.23).
+    pub fn check_plan(
+        &self,
+        discard_secure: bool,
+        answer: &[u64; TURN_WORDS],
+    ) -> Result<(), String> {
         let count: u64 = self.segments.iter().map(|it| it.length()).sum();
         let head = [
             u64::from(self.operation),
             self.start,
             self.sectors + count,
-            u64::from(self.secure),
+            u64::from(self.secure && discard_secure),
             self.segments.len() as u64,
         ];
         let mut extents = [0; TURN_WORDS - turn::EXTENTS];
