@@ -66,7 +66,7 @@ module _ (p : Params) (grants : List ℕ) (r : Request) where
   unfolding segmentChecks isReason
   segment-listed = row refl refl (row refl refl end)
 
-  disk-listed : (moves : Bool) → Listed (cond moves [] (diskChecks p (r .start) (countOf r) (dataSegments r)))
+  disk-listed : (nothing : Bool) → Listed (cond nothing [] (diskChecks p (r .start) (countOf r) (dataSegments r)))
   unfolding diskChecks isReason
   disk-listed true = end
   disk-listed false = row refl refl (row refl refl end)
