@@ -66,7 +66,7 @@ fn discard_amount(count: u64) -> u32
     0
 }
 
-// 22 to 25 of a discard, or 0.
+// 22 to 25 of a discard, or 0; its flag is not asked. The sectors are looked at first: after the test of the feature, every turn takes two instructions more.
 fn discard_reason(params: model::Params, slot: &[u8; SLOT_BYTES]) -> u32
     requires { ⌜ getD (now slot) requestOperationAt 0 ≡ discard ⌝ }
     ensures { λ r. ⌜ r ≡ operationReason params (requestIn (now (slot .entry))) ⌝ }
