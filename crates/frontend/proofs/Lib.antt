@@ -1,5 +1,3 @@
 pub mod Outstanding
-pub mod Asking
-pub mod Segments
 pub mod Pages
 pub mod Promises

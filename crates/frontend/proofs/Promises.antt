@@ -13,7 +13,9 @@ use Rattle.model.specs.declared.Collected.{Collected}
 use Rattle.model.specs.declared.Pair.{Pair}
 use Rattle.model.specs.declared.Put.{Put}
 use Rattle.model.proofs.Base.{by-cond}
-use Rattle.frontend.specs.Guest.{Guest, guestPage, isPage, mostOutstanding, placeOf, has, sameId, samePair, isBad, slotFor, PutEffect, notPut, putPage, puts, putDue, CollectEffect, notCollected, ahead, nextPair, nextStatus, waits, collects, collectDue}
+use Rattle.asking.specs.Request.{isBad}
+use Rattle.asking.specs.Slot.{slotFor}
+use Rattle.frontend.specs.Guest.{Guest, guestPage, isPage, mostOutstanding, placeOf, has, sameId, samePair, PutEffect, notPut, putPage, puts, putDue, CollectEffect, notCollected, ahead, nextPair, nextStatus, waits, collects, collectDue}
 use Rattle.frontend.specs.Words.{putAt, collectedAt, countAt, idsAt, operationsAt, guestWords, indexIn, countIn, pairAt, guestOf, setPair, wordsPut, wordsEnded}
 use Rattle.frontend.specs.Promise.{putWordsLeft, collectWordsLeft, PutPromise, Placed, CollectPromise}
 use Rattle.frontend.proofs.Outstanding.{length-outstanding, guest-put, guest-ended}

@@ -1,30 +1,26 @@
--- Section 16 of docs/RULES.md: the guest's half. Its page is that of the backend's rules, with the 64-bit layout: what stands in a slot, a response and the
--- header is said in model's Ring, and only there.
-use Prim.Native.Nat.{ℕ, suc, _+_, _-_, _*_, _%_, _^_}
-use mathlib.Core.Bool.{Bool, not, cond, _&&_, _||_}
+-- Section 16 of docs/RULES.md: the guest's half. Its page is that of the backend's rules, with the 64-bit layout: what stands in a response and the header is
+-- said in model's Ring, and only there.
+use Prim.Native.Nat.{ℕ, _-_}
+use mathlib.Core.Bool.{Bool, not, _&&_}
 use mathlib.Core.List.{List, [], _∷_, _++_}
 use lib.Dec.{eqb, ltb, leb}
 use lib.ListN.{length, getD, set, take, replicate}
-use Rattle.wire.specs.LittleEndian.{store}
 use Rattle.wire.specs.Part.{setPart}
-use Rattle.model.specs.Base.{_⇒_, firstOf, least, all}
-use Rattle.model.specs.Ring.{Layout, Ring, Request, layoutOf, ringFor, ringSlots, slotBytes, segmentSize, segmentFirstAt, segmentLastAt, requestOperationAt, requestCountAt, slotAt, setReqProd, reqEvent, rspProd, setRspEvent, responsePair, responseStatus, read, write, barrier, flush, discard}
+use Rattle.model.specs.Base.{_⇒_, firstOf, least}
+use Rattle.model.specs.Ring.{Ring, Request, ringFor, ringSlots, slotBytes, slotAt, setReqProd, reqEvent, rspProd, setRspEvent, responsePair, responseStatus}
 use Rattle.model.specs.Port.{distance, after}
-use Rattle.model.specs.Checks.{isA, movesNothing, wrongAmount, wrongSegment}
 use Rattle.model.specs.declared.Abi.{Abi}
 use Rattle.model.specs.declared.Collected.{Collected}
 use Rattle.model.specs.declared.Pair.{Pair}
 use Rattle.model.specs.declared.Put.{Put}
-use Rattle.model.specs.declared.Segment.{Segment}
+use Rattle.asking.specs.Request.{isBad}
+use Rattle.asking.specs.Slot.{slotFor}
 
 -- ---- the page
 
 -- its bytes, which are a guest's own number, whatever a port's share of the rings has; and the ring in it (rule 16.1)
 abbrev pub guestPage : ℕ
 guestPage = 4096
-
-abbrev pub guestLayout : Layout
-guestLayout = layoutOf Abi.Bits64
 
 abbrev pub guestRing : Ring
 guestRing = ringFor Abi.Bits64
@@ -71,55 +67,6 @@ samePair p q = eqb (p .id) (q .id) && eqb (p .operation) (q .operation)
 -- the outstanding without the one at place i: the last takes its place (rule 16.15)
 unfoldable pub without : ℕ → List Pair → List Pair
 without i l = let last = length l - 1 in take last (set l i (getD l last noPair))
-
--- ---- a request that may be put
-
--- none of the operations that a guest puts; a backend may come to know more of them (rule 16.6)
-unfoldable pub isForeign : Request → Bool
-isForeign r = not (isA read r || isA write r || isA barrier r || isA flush r || isA discard r)
-
--- the frame fits its field of 32 bits (rule 16.7)
-unfoldable pub isNarrow : Segment → Bool
-isNarrow s = ltb (s .frame) (2 ^ 32)
-
-unfoldable pub isTooWide : Request → Bool
-isTooWide r = not (isA discard r) && not (all isNarrow (r .segments))
-
--- what 33 is for: the backend's checks 21, 25 and 26, and frames that don't fit (rules 16.6 and 16.7)
-abbrev pub isBad : Request → Bool
-isBad r = isForeign r || wrongAmount r || wrongSegment r || isTooWide r
-
--- ---- a request in its slot: what `requestOf` reads
-
--- segment i
-unfoldable pub setSegment : List ℕ → ℕ → Segment → List ℕ
-setSegment slot i s =
-    let at = guestLayout .segmentsAt + segmentSize * i in
-    store 1 (store 1 (store 4 slot at (s .frame)) (at + segmentFirstAt) (s .first)) (at + segmentLastAt) (s .last)
-
--- segments from number i on
-unfoldable pub setSegments : List ℕ → ℕ → List Segment → List ℕ
-setSegments slot i [] = slot
-setSegments slot i (s ∷ ss) = setSegments (setSegment slot i s) (suc i) ss
-
--- Zeros with an operation, a segment count or flag, an id and a start: all else of the slot is zero, the handle too (rule 16.8).
-unfoldable pub headOf : Pair → ℕ → ℕ → List ℕ
-headOf q second start =
-    store 8
-    (store 8 (store 1 (store 1 (replicate slotBytes 0) requestOperationAt (q .operation)) requestCountAt second) (guestLayout .idAt) (q .id))
-    (guestLayout .startAt) start
-
--- of a discard: bit 0 of its flag, and its sectors (rule 16.8)
-unfoldable pub discardSlot : Request → List ℕ
-discardSlot r = store 8 (headOf (r .pair) (r .flag % 2) (r .start)) (guestLayout .segmentsAt) (r .sectors)
-
--- of the others: their segments, and no start where nothing moves (rule 16.8)
-unfoldable pub segmentsSlot : Request → List ℕ
-segmentsSlot r = setSegments (headOf (r .pair) (r .n) (cond (movesNothing r) 0 (r .start))) 0 (r .segments)
-
--- all 112 bytes
-unfoldable pub slotFor : Request → List ℕ
-slotFor r = cond (isA discard r) (discardSlot r) (segmentsSlot r)
 
 -- ---- putting
 

@@ -1,15 +1,10 @@
--- The words that a guest lends: its own memory, read as a guest whatever they hold (rule 16.16), and a request (rule 16.17).
-use Prim.Native.Nat.{ℕ, zero, suc, _+_, _-_, _*_, _%_, _^_, min}
+-- The words that a guest lends: its own memory, read as a guest whatever they hold (rule 16.16).
+use Prim.Native.Nat.{ℕ, zero, suc, _+_, _-_, _%_, _^_, min}
 use mathlib.Core.List.{List, [], _∷_, _++_}
 use lib.ListN.{getD, set, replicate}
-use Rattle.model.specs.Checks.{maxSegments}
 use Rattle.model.specs.Port.{after}
-use Rattle.model.specs.Ring.{Request}
 use Rattle.model.specs.declared.Pair.{Pair}
-use Rattle.model.specs.declared.Segment.{Segment}
 use Rattle.frontend.specs.Guest.{Guest, mostOutstanding}
-
--- ---- a guest's memory
 
 -- two indices, how many are outstanding, their ids, their operations (rule 16.16)
 abbrev pub putAt : ℕ
@@ -65,35 +60,3 @@ wordsPut w q = setPair (set (set w putAt (after (indexIn w putAt))) countAt (cou
 -- the request at place i ended: the index after it, and the last pair in its place (rules 16.15 and 16.16)
 unfoldable pub wordsEnded : List ℕ → ℕ → List ℕ
 wordsEnded w i = setPair (set (set w collectedAt (after (indexIn w collectedAt))) countAt (countIn w - 1)) i (pairAt w (countIn w - 1))
-
--- ---- a request
-
--- the words of a segment, and where the segments begin (rule 16.17)
-abbrev pub segmentWords : ℕ
-segmentWords = 3
-
-abbrev pub segmentsAtWord : ℕ
-segmentsAtWord = 8
-
-unfoldable pub segmentIn : List ℕ → ℕ → Segment
-segmentIn w i = record {
-  frame = getD w (segmentsAtWord + segmentWords * i) 0;
-  first = getD w (segmentsAtWord + segmentWords * i + 1) 0;
-  last = getD w (segmentsAtWord + segmentWords * i + 2) 0;
-}
-
--- n segments, from number i on
-unfoldable pub segmentsIn : ℕ → List ℕ → ℕ → List Segment
-segmentsIn zero w i = []
-segmentsIn (suc n) w i = segmentIn w i ∷ segmentsIn n w (suc i)
-
--- The request that the words say (rule 16.17). There is room for eleven segments; one that has more of them, and is no discard, is refused for that (rule 8.25).
-unfoldable pub requestIn : List ℕ → Request
-requestIn w = record {
-  pair = record { id = getD w 1 0; operation = getD w 0 0 };
-  n = getD w 3 0;
-  flag = getD w 4 0;
-  start = getD w 2 0;
-  segments = segmentsIn (min (getD w 3 0) maxSegments) w 0;
-  sectors = getD w 5 0;
-}

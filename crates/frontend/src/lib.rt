@@ -4,8 +4,6 @@
 mod collecting;
 mod page;
 mod putting;
-mod request;
-mod slot;
 mod words;
 
 pub use collecting::collect;

@@ -1,19 +1,15 @@
 // Putting a request.
 use crate::page::publish;
-use crate::request::COUNT;
-use crate::request::DISCARD;
-use crate::request::ID;
-use crate::request::OPERATION;
-use crate::request::wrong_asking;
-use crate::request::wrong_segments;
-use crate::slot::discard_slot;
-use crate::slot::segments_slot;
 use crate::words::MOST;
 use crate::words::add;
 use crate::words::has_id;
 use crate::words::known;
 use crate::words::outstanding;
 use crate::words::put_index;
+use asking::COUNT;
+use asking::DISCARD;
+use asking::ID;
+use asking::OPERATION;
 use layout::SLOT_BYTES;
 use model::Put;
 use model::buffer::GUEST_PAGE_BYTES;
@@ -26,9 +22,10 @@ use model::refusal::WRONG_LENGTH;
 ghost use Prim.Native.Nat.{_<_};
 ghost use mathlib.Core.Path.{_≡_};
 ghost use lib.ListN.{length};
+ghost use Rattle.asking.specs.Request.{requestIn};
 ghost use Rattle.frontend.specs.Guest.{guestPage, mostOutstanding};
 ghost use Rattle.frontend.specs.Promise.{PutPromise, Placed};
-ghost use Rattle.frontend.specs.Words.{guestOf, requestIn};
+ghost use Rattle.frontend.specs.Words.{guestOf};
 
 // A request that may be put goes to our own index: its slot to the page, its id and operation to the outstanding.
 fn place(
@@ -59,14 +56,14 @@ pub fn put(guest: &mut [u64; GUEST_WORDS], page: &mut [u8], request: &[u64; REQU
     if has_id(guest, request[ID]) {
         return Put::Refused(ID_OUTSTANDING);
     }
-    if wrong_asking(request) {
+    if asking::wrong_asking(request) {
         return Put::Refused(BAD_REQUEST);
     }
     if request[OPERATION] == DISCARD {
-        return place(guest, page, request, &discard_slot(request));
+        return place(guest, page, request, &asking::discard_slot(request));
     }
-    if wrong_segments(request, request[COUNT] as usize) {
+    if asking::wrong_segments(request, request[COUNT] as usize) {
         return Put::Refused(BAD_REQUEST);
     }
-    place(guest, page, request, &segments_slot(request))
+    place(guest, page, request, &asking::segments_slot(request))
 }

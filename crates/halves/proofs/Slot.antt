@@ -17,9 +17,9 @@ use Rattle.model.specs.Ring.{Request, slotBytes, segmentOf, segmentsOf, request
 use Rattle.model.specs.declared.Pair.{Pair}
 use Rattle.model.specs.declared.Segment.{Segment}
 use Rattle.model.proofs.Base.{by-cond, clash, and-left, and-right, or-left, or-right}
-use Rattle.frontend.specs.Guest.{guestLayout, isForeign, isNarrow, isTooWide, isBad, setSegment, setSegments, headOf, discardSlot, segmentsSlot, slotFor}
-use Rattle.frontend.specs.Words.{segmentsIn, requestIn}
-use Rattle.frontend.proofs.Asking.{few-segments}
+use Rattle.asking.specs.Request.{segmentsIn, requestIn, isForeign, isNarrow, isTooWide, isBad}
+use Rattle.asking.specs.Slot.{guestLayout, setSegment, setSegments, headOf, discardSlot, segmentsSlot, slotFor}
+use Rattle.asking.proofs.Asking.{few-segments}
 use Rattle.halves.specs.Claim.{AsPut, Fit, readSlot}
 use Rattle.halves.proofs.Page.{bytes-zeros}
 

@@ -36,7 +36,9 @@ use Rattle.model.proofs.Demand3.{demanded}
 use Rattle.model.proofs.Permitted.{sound, view-ring, view-consumed}
 use Rattle.model.proofs.Refinement.{Told, told-step}
 use Rattle.model.proofs.Ring.{slotOf-modulus}
-use Rattle.frontend.specs.Guest.{guestPage, guestRing, isPage, mostOutstanding, has, sameId, samePair, isBad, slotFor, PutEffect, putDue, puts, ahead, nextPair, CollectEffect, collectDue, collects, waits}
+use Rattle.asking.specs.Request.{isBad}
+use Rattle.asking.specs.Slot.{slotFor}
+use Rattle.frontend.specs.Guest.{guestPage, guestRing, isPage, mostOutstanding, has, sameId, samePair, PutEffect, putDue, puts, ahead, nextPair, CollectEffect, collectDue, collects, waits}
 use Rattle.halves.specs.Claim.{readSlot, NotOverrun, Holds, Fit, Lends, ForGuest, HalvesTheorem}
 use Rattle.halves.specs.System.{Gathered, System, Step, putting, collecting, turning, completing, openingOther, closingAny, logPut, logCollected, logRefused, turnOn, completeOn, slotsTaken, step, run, opened, atOpening}
 use Rattle.halves.proofs.Page.{guest-reads, guest-fits, quiet-rspEvent}

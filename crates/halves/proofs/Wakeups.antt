@@ -36,7 +36,9 @@ use Rattle.model.proofs.Ledger.{length-answerTo}
 use Rattle.model.proofs.Page.{length-pageOf}
 use Rattle.model.proofs.Permitted.{view-consumed, view-produced, view-state, chosen-open}
 use Rattle.model.proofs.Refinement.{told-step}
-use Rattle.frontend.specs.Guest.{guestPage, guestRing, isPage, mostOutstanding, has, sameId, samePair, isBad, slotFor, PutEffect, putDue, puts, ahead, nextPair, CollectEffect, collectDue, collects, waits}
+use Rattle.asking.specs.Request.{isBad}
+use Rattle.asking.specs.Slot.{slotFor}
+use Rattle.frontend.specs.Guest.{guestPage, guestRing, isPage, mostOutstanding, has, sameId, samePair, PutEffect, putDue, puts, ahead, nextPair, CollectEffect, collectDue, collects, waits}
 use Rattle.halves.specs.Claim.{Lends}
 use Rattle.halves.specs.System.{System, Step, putting, collecting, turning, completing, openingOther, closingAny, logPut, logCollected, turnOn, completeOn, step, atOpening}
 use Rattle.halves.specs.Wakeups.{Waits, nobodyWaits, afterPut, afterCollect, afterTurn, afterCompletion, waitsAfter, Rests, RestsAfter, WakeupTheorem}

@@ -22,8 +22,9 @@ use Rattle.memory.proofs.Changes.{becomes-exact}
 use Rattle.memory.proofs.Zeros.{backend-zeros, zeros-exact}
 use Rattle.backend.proofs.Every.{outcome}
 use Rattle.backend.proofs.Runs.{zeros-told}
-use Rattle.frontend.specs.Guest.{Guest, guestPage, zeroPage, isPage, mostOutstanding, has, sameId, samePair, isBad, freshGuest, PutEffect, putDue, puts, CollectEffect, ahead, nextPair, collectDue, collects, waits}
-use Rattle.frontend.specs.Words.{guestWords, pairsIn, guestOf, requestIn, guestZeros}
+use Rattle.asking.specs.Request.{requestIn, isBad}
+use Rattle.frontend.specs.Guest.{Guest, guestPage, zeroPage, isPage, mostOutstanding, has, sameId, samePair, freshGuest, PutEffect, putDue, puts, CollectEffect, ahead, nextPair, collectDue, collects, waits}
+use Rattle.frontend.specs.Words.{guestWords, pairsIn, guestOf, guestZeros}
 use Rattle.frontend.specs.Promise.{putWordsLeft, collectWordsLeft}
 use Rattle.frontend.proofs.Promises.{put-guest, collect-guest, length-put, length-collect}
 use Rattle.halves.specs.System.{System, putting, collecting, turning, completing, openingOther, closingAny, logPut, logCollected, logRefused, called, step, opened}

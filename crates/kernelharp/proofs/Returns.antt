@@ -14,8 +14,8 @@ use Rattle.model.specs.declared.Collected.{Collected}
 use Rattle.model.specs.declared.Completed.{Completed}
 use Rattle.model.specs.declared.Put.{Put}
 use Rattle.model.specs.declared.Turned.{Turned}
+use Rattle.asking.specs.Request.{requestIn}
 use Rattle.frontend.specs.Promise.{putWordsLeft, collectWordsLeft, PutPromise, CollectPromise}
-use Rattle.frontend.specs.Words.{requestIn}
 use Rattle.memory.specs.Promise.{Promised}
 use Rattle.turn.specs.Promise.{TurnPromised}
 use Rattle.kernelharp.specs.Guest.{PutReturned, CollectReturned}

@@ -2,7 +2,7 @@
 use borrow.Author.Needs.{needs}
 use mathlib.Core.Path.{ap}
 use Rattle.model.specs.declared.Put.{Put}
-use Rattle.frontend.specs.Words.{requestIn}
+use Rattle.asking.specs.Request.{requestIn}
 use Rattle.frontend.proofs.putting.place.Statement.{statement}
 use Rattle.frontend.proofs.putting.place.Tie as tie
 

@@ -2,8 +2,8 @@
 use borrow.Author.Needs.{needs}
 use mathlib.Core.Path.{sym, _∙_}
 use native.Mathlib.Omega.{arith}
-use Rattle.frontend.specs.Words.{requestIn}
-use Rattle.frontend.proofs.Asking.{few-segments, bad-asking, bad-discard, bad-segments, slot-discard, slot-segments}
+use Rattle.asking.specs.Request.{requestIn}
+use Rattle.asking.proofs.Asking.{few-segments, bad-asking, bad-discard, bad-segments, slot-discard, slot-segments}
 use Rattle.frontend.proofs.Promises.{refused-1, refused-31, refused-32, refused-33, put-done}
 use Rattle.frontend.proofs.putting.put.Statement.{statement}
 use Rattle.frontend.proofs.putting.put.Tie as tie

@@ -1,4 +1,4 @@
--- `frontend::slot::segments_slot` meets its contract. Assumes nothing.
+-- `asking::slot::segments_slot` meets its contract. Assumes nothing.
 use borrow.Author.Needs.{needs}
 use mathlib.Core.Path.{_≡_, ap}
 use mathlib.Core.Bool.{cond}
@@ -6,10 +6,10 @@ use Prim.Native.Nat.{min, ℕ}
 use native.Mathlib.Omega.{arith}
 use lib.ListN.{getD}
 use Rattle.model.specs.Checks.{maxSegments, movesNothing}
-use Rattle.frontend.specs.Guest.{segmentsSlot, setSegments, headOf}
-use Rattle.frontend.specs.Words.{requestIn, segmentsIn}
-use Rattle.frontend.proofs.slot.segments_slot.Statement.{statement}
-use Rattle.frontend.proofs.slot.segments_slot.Tie as tie
+use Rattle.asking.specs.Request.{segmentsIn, requestIn}
+use Rattle.asking.specs.Slot.{setSegments, headOf, segmentsSlot}
+use Rattle.asking.proofs.slot.segments_slot.Statement.{statement}
+use Rattle.asking.proofs.slot.segments_slot.Tie as tie
 
 start-of-requires : tie.Need-start-of-requires
 start-of-requires c κs = search needs

@@ -6,8 +6,7 @@ ghost use Prim.Native.Nat.{_≤_};
 ghost use lib.Dec.{leb};
 ghost use Rattle.model.specs.Base.{all};
 ghost use Rattle.model.specs.Checks.{maxSegments, isWithinFrame, wrongAmount};
-ghost use Rattle.frontend.specs.Guest.{isForeign, isNarrow};
-ghost use Rattle.frontend.specs.Words.{segmentsIn, requestIn};
+ghost use Rattle.asking.specs.Request.{segmentsIn, requestIn, isForeign, isNarrow};
 
 // Which of the words is which. The segments' are frame, first and last sector.
 pub const OPERATION: usize = 0;

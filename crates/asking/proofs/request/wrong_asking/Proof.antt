@@ -1,10 +1,10 @@
--- `frontend::request::wrong_asking` meets its contract, for each operation. Assumes nothing.
+-- `asking::request::wrong_asking` meets its contract, for each operation. Assumes nothing.
 use borrow.Author.Needs.{needs}
 use mathlib.Core.Path.{sym, _∙_}
-use Rattle.frontend.specs.Words.{requestIn}
-use Rattle.frontend.proofs.Asking.{asks-read, asks-write, asks-barrier, asks-flush, asks-discard, asks-other}
-use Rattle.frontend.proofs.request.wrong_asking.Statement.{statement}
-use Rattle.frontend.proofs.request.wrong_asking.Tie as tie
+use Rattle.asking.specs.Request.{requestIn}
+use Rattle.asking.proofs.Asking.{asks-read, asks-write, asks-barrier, asks-flush, asks-discard, asks-other}
+use Rattle.asking.proofs.request.wrong_asking.Statement.{statement}
+use Rattle.asking.proofs.request.wrong_asking.Tie as tie
 
 element-copy-out-operation : tie.Need-element-copy-out-operation
 element-copy-out-operation c = search needs

@@ -1,9 +1,9 @@
--- `frontend::slot::start_of` meets its contract. Assumes nothing.
+-- `asking::slot::start_of` meets its contract. Assumes nothing.
 use borrow.Author.Needs.{needs}
-use Rattle.frontend.specs.Words.{requestIn}
-use Rattle.frontend.proofs.Asking.{moves-flush, moves-barrier, moves-segments, moves-other}
-use Rattle.frontend.proofs.slot.start_of.Statement.{statement}
-use Rattle.frontend.proofs.slot.start_of.Tie as tie
+use Rattle.asking.specs.Request.{requestIn}
+use Rattle.asking.proofs.Asking.{moves-flush, moves-barrier, moves-segments, moves-other}
+use Rattle.asking.proofs.slot.start_of.Statement.{statement}
+use Rattle.asking.proofs.slot.start_of.Tie as tie
 
 element-copy-out-if1 : tie.Need-element-copy-out-if1
 element-copy-out-if1 c = search needs

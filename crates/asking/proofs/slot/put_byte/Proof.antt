@@ -1,12 +1,12 @@
--- `frontend::slot::put_byte` meets its contract. Assumes nothing.
+-- `asking::slot::put_byte` meets its contract. Assumes nothing.
 use borrow.Author.Needs.{needs}
 use mathlib.Core.Path.{_≡_}
 use Prim.Native.Nat.{ℕ, _+_, _/_, _%_}
 use native.Mathlib.Omega.{arith}
 use lib.ListN.{set}
 use Rattle.wire.specs.LittleEndian.{store}
-use Rattle.frontend.proofs.slot.put_byte.Statement.{statement}
-use Rattle.frontend.proofs.slot.put_byte.Tie as tie
+use Rattle.asking.proofs.slot.put_byte.Statement.{statement}
+use Rattle.asking.proofs.slot.put_byte.Tie as tie
 
 cast-slot : tie.Need-cast-slot
 cast-slot c = search needs

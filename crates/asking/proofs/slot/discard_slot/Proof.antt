@@ -1,9 +1,9 @@
--- `frontend::slot::discard_slot` meets its contract. Assumes nothing.
+-- `asking::slot::discard_slot` meets its contract. Assumes nothing.
 use borrow.Author.Needs.{needs}
-use Rattle.frontend.specs.Guest.{discardSlot}
-use Rattle.frontend.specs.Words.{requestIn}
-use Rattle.frontend.proofs.slot.discard_slot.Statement.{statement}
-use Rattle.frontend.proofs.slot.discard_slot.Tie as tie
+use Rattle.asking.specs.Request.{requestIn}
+use Rattle.asking.specs.Slot.{discardSlot}
+use Rattle.asking.proofs.slot.discard_slot.Statement.{statement}
+use Rattle.asking.proofs.slot.discard_slot.Tie as tie
 
 element-copy-out-head : tie.Need-element-copy-out-head
 element-copy-out-head c = search needs

@@ -1,11 +1,11 @@
--- `frontend::request::wrong_segments` meets its contract. The invariant: the segments left are good if all are. Assumes nothing.
+-- `asking::request::wrong_segments` meets its contract. The invariant: the segments left are good if all are. Assumes nothing.
 use borrow.Author.Needs.{needs}
 use mathlib.Core.Path.{_≡_}
 use Prim.Native.Nat.{_-_, _≤_}
 use native.Mathlib.Omega.{arith}
-use Rattle.frontend.proofs.Asking.{good, good-next, good-crossed, good-past, good-wide, walk-begin, walk-fault, walk-on, walk-end}
-use Rattle.frontend.proofs.request.wrong_segments.Statement.{statement}
-use Rattle.frontend.proofs.request.wrong_segments.Tie as tie
+use Rattle.asking.proofs.Asking.{good, good-next, good-crossed, good-past, good-wide, walk-begin, walk-fault, walk-on, walk-end}
+use Rattle.asking.proofs.request.wrong_segments.Statement.{statement}
+use Rattle.asking.proofs.request.wrong_segments.Tie as tie
 
 abbrev Inv-loop : tie.InvT-loop
 Inv-loop request n i₀ i = (i ≤ n) × (good request (n - i) i ≡ good request n 0)

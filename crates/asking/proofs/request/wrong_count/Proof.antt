@@ -1,9 +1,9 @@
--- `frontend::request::wrong_count` meets its contract. Assumes nothing.
+-- `asking::request::wrong_count` meets its contract. Assumes nothing.
 use native.Mathlib.Omega.{arith}
 use borrow.Author.Tests.{le-leb, lt-leb}
-use Rattle.frontend.proofs.Asking.{not-leb}
-use Rattle.frontend.proofs.request.wrong_count.Statement.{statement}
-use Rattle.frontend.proofs.request.wrong_count.Tie as tie
+use Rattle.asking.proofs.Asking.{not-leb}
+use Rattle.asking.proofs.request.wrong_count.Statement.{statement}
+use Rattle.asking.proofs.request.wrong_count.Tie as tie
 
 returns : tie.Need-returns
 returns c = rw (lt-leb 1 (c .before .args .n) (c .if1 .taken))

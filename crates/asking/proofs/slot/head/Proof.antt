@@ -1,8 +1,8 @@
--- `frontend::slot::head` meets its contract. Assumes nothing.
+-- `asking::slot::head` meets its contract. Assumes nothing.
 use borrow.Author.Needs.{needs}
-use Rattle.frontend.specs.Guest.{headOf}
-use Rattle.frontend.proofs.slot.head.Statement.{statement}
-use Rattle.frontend.proofs.slot.head.Tie as tie
+use Rattle.asking.specs.Slot.{headOf}
+use Rattle.asking.proofs.slot.head.Statement.{statement}
+use Rattle.asking.proofs.slot.head.Tie as tie
 
 slice-aggregate-put-byte : tie.Need-slice-aggregate-put-byte
 slice-aggregate-put-byte c = search needs

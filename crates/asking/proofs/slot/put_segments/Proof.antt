@@ -1,15 +1,15 @@
--- `frontend::slot::put_segments` meets its contract. The invariant: with the segments left the slot is what it is with all. Assumes nothing.
+-- `asking::slot::put_segments` meets its contract. The invariant: with the segments left the slot is what it is with all. Assumes nothing.
 use borrow.Author.Needs.{needs}
 use mathlib.Core.Path.{_≡_, sym, _∙_}
 use Prim.Native.Nat.{_-_, _≤_}
 use native.Mathlib.Omega.{arith}
 use lib.ListN.{length}
 use Rattle.model.specs.Ring.{slotBytes}
-use Rattle.frontend.specs.Guest.{setSegment, setSegments}
-use Rattle.frontend.specs.Words.{segmentIn, segmentsIn}
-use Rattle.frontend.proofs.Segments.{putOn, put-begin, put-next, put-end, length-setSegment}
-use Rattle.frontend.proofs.slot.put_segments.Statement.{statement}
-use Rattle.frontend.proofs.slot.put_segments.Tie as tie
+use Rattle.asking.specs.Request.{segmentIn, segmentsIn}
+use Rattle.asking.specs.Slot.{setSegment, setSegments}
+use Rattle.asking.proofs.Segments.{putOn, put-begin, put-next, put-end, length-setSegment}
+use Rattle.asking.proofs.slot.put_segments.Statement.{statement}
+use Rattle.asking.proofs.slot.put_segments.Tie as tie
 
 abbrev Inv-loop : tie.InvT-loop
 Inv-loop slot₀ request n i₀ slot i = (i ≤ n) × (length slot ≡ slotBytes) × (putOn request n i slot ≡ setSegments slot₀ 0 (segmentsIn n request 0))

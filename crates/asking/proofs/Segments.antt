@@ -8,8 +8,8 @@ use native.Mathlib.Omega.{arith}
 use lib.ListN.{length}
 use Rattle.wire.proofs.LittleEndian.{length-store}
 use Rattle.model.specs.declared.Segment.{Segment}
-use Rattle.frontend.specs.Guest.{setSegment, setSegments}
-use Rattle.frontend.specs.Words.{segmentIn, segmentsIn}
+use Rattle.asking.specs.Request.{segmentIn, segmentsIn}
+use Rattle.asking.specs.Slot.{setSegment, setSegments}
 
 pub length-setSegment : (slot : List ℕ) (i : ℕ) (s : Segment) → length (setSegment slot i s) ≡ length slot
 unfolding setSegment

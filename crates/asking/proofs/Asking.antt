@@ -14,8 +14,8 @@ use Rattle.model.specs.Base.{all}
 use Rattle.model.specs.Checks.{maxSegments, isEmptyBarrier, movesNothing, unknownOperation, wrongAmount, isWithinFrame, wrongSegment}
 use Rattle.model.specs.Ring.{Request, read, write, barrier, flush, discard}
 use Rattle.model.proofs.Base.{clash, and-right, and-false}
-use Rattle.frontend.specs.Guest.{isForeign, isNarrow, isTooWide, isBad, discardSlot, segmentsSlot, slotFor}
-use Rattle.frontend.specs.Words.{segmentIn, segmentsIn, requestIn}
+use Rattle.asking.specs.Request.{segmentIn, segmentsIn, requestIn, isForeign, isNarrow, isTooWide, isBad}
+use Rattle.asking.specs.Slot.{discardSlot, segmentsSlot, slotFor}
 
 -- ---- tests
 

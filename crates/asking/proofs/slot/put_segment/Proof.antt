@@ -1,9 +1,9 @@
--- `frontend::slot::put_segment` meets its contract. Assumes nothing.
+-- `asking::slot::put_segment` meets its contract. Assumes nothing.
 use borrow.Author.Needs.{needs}
 use Rattle.wire.proofs.LittleEndian.{store-mod}
-use Rattle.frontend.specs.Guest.{setSegment}
-use Rattle.frontend.proofs.slot.put_segment.Statement.{statement}
-use Rattle.frontend.proofs.slot.put_segment.Tie as tie
+use Rattle.asking.specs.Slot.{setSegment}
+use Rattle.asking.proofs.slot.put_segment.Statement.{statement}
+use Rattle.asking.proofs.slot.put_segment.Tie as tie
 
 segment-at-requires : tie.Need-segment-at-requires
 segment-at-requires c κs = search needs

@@ -26,8 +26,8 @@ ghost use lib.ListN.{length};
 ghost use Rattle.wire.specs.LittleEndian.{store};
 ghost use Rattle.model.specs.Checks.{maxSegments, movesNothing};
 ghost use Rattle.model.specs.Ring.{slotBytes};
-ghost use Rattle.frontend.specs.Guest.{setSegment, setSegments, headOf, discardSlot, segmentsSlot};
-ghost use Rattle.frontend.specs.Words.{segmentsIn, requestIn};
+ghost use Rattle.asking.specs.Request.{segmentsIn, requestIn};
+ghost use Rattle.asking.specs.Slot.{setSegment, setSegments, headOf, discardSlot, segmentsSlot};
 
 // The low byte of v goes to i.
 fn put_byte(slot: &mut [u8], i: usize, v: u64)
