@@ -38,15 +38,15 @@ extern "C" {
  * and the last, and makes no other call when one of them is not the header's: the header and the archive are then not
  * of one release, or not built for the same memory.
  */
-#define KH_VERSION 700 /* 0.7.0 */
+#define KH_VERSION 800 /* 0.8.0 */
 uint32_t kh_version(void);
 uint32_t kh_memory_words(void);
 uint32_t kh_guest_words(void);
 
 /* Sizes of what a host lends. */
 #define KH_PORTS        8     /* ports 0 to 7, one guest disk each */
-#define KH_MEMORY_WORDS 1121  /* backend memory, in words of 64 bits */
-#define KH_RINGS_BYTES  32768 /* all ring pages: port k's at KH_RING_BYTES * k */
+#define KH_MEMORY_WORDS 2153  /* backend memory, in words of 64 bits */
+#define KH_RINGS_BYTES  65536 /* all rings: port k's share at KH_RING_BYTES * k */
 #define KH_GRANTS_BYTES 8192  /* all grants: port k's at KH_PORT_GRANTS * k */
 #define KH_TURN_WORDS   64    /* answer of kh_turn */
 #define KH_DONE_WORDS   4     /* answer of kh_complete */
@@ -59,21 +59,25 @@ uint32_t kh_guest_words(void);
 #define KH_COLLECT_WORDS    4    /* answer of kh_guest_collect */
 
 /*
- * A port's ring page: a header of four 32-bit indices, then the slots. Index i lives in slot i modulo KH_SLOTS. A slot
- * has a request, and later a response at its begin; the slot's other bytes stay. How long they are is up to the guest's
- * layout, see enum kh_abi; the header is the same in both.
+ * A port's ring: a header of four 32-bit indices, then the slots. It has one page or two, as the port's sheet says, and
+ * begins where the port's share of the rings does; two pages stand one after the other, and the second has no header of
+ * its own. The second half of a one-page port's share is neither read nor written. Index i lives in slot i modulo
+ * kh_slots(pages). A slot has a request, and later a response at its begin; the slot's other bytes stay. How long they
+ * are is up to the guest's layout, see enum kh_abi; the header is the same in both.
  */
-#define KH_RING_BYTES       4096
-#define KH_REQ_PROD         0   /* the guest's: requests published */
-#define KH_REQ_EVENT        4   /* the backend's: the guest notifies when req_prod gets here */
-#define KH_RSP_PROD         8   /* the backend's: responses published */
-#define KH_RSP_EVENT        12  /* the guest's: the backend notifies when rsp_prod gets here */
-#define KH_HEADER_BYTES     64  /* slot s is at KH_HEADER_BYTES + kh_slot_bytes(abi) * s */
-#define KH_SLOTS            32  /* in both layouts */
-#define KH_SLOT_BYTES       112 /* a slot of a 64-bit guest; none is larger */
-#define KH_SLOT32_BYTES     108 /* a slot of a 32-bit guest */
-#define KH_RESPONSE_BYTES   16  /* a response to a 64-bit guest; none is larger */
-#define KH_RESPONSE32_BYTES 12  /* a response to a 32-bit guest */
+#define KH_PAGE_BYTES       4096
+#define KH_RING_PAGES       2    /* pages of a ring, at most */
+#define KH_RING_BYTES       8192 /* a port's share of the rings */
+#define KH_REQ_PROD         0    /* the guest's: requests published */
+#define KH_REQ_EVENT        4    /* the backend's: the guest notifies when req_prod gets here */
+#define KH_RSP_PROD         8    /* the backend's: responses published */
+#define KH_RSP_EVENT        12   /* the guest's: the backend notifies when rsp_prod gets here */
+#define KH_HEADER_BYTES     64   /* slot s is at KH_HEADER_BYTES + kh_slot_bytes(abi) * s */
+#define KH_PAGE_SLOTS       32   /* slots of a ring for each of its pages, in both layouts */
+#define KH_SLOT_BYTES       112  /* a slot of a 64-bit guest; none is larger */
+#define KH_SLOT32_BYTES     108  /* a slot of a 32-bit guest */
+#define KH_RESPONSE_BYTES   16   /* a response to a 64-bit guest; none is larger */
+#define KH_RESPONSE32_BYTES 12   /* a response to a 32-bit guest */
 
 /*
  * How a guest lays out its requests and responses: its protocol. Ports of both layouts share a backend. A slot's bytes:
@@ -101,7 +105,7 @@ enum kh_abi {
 #define KH_GRANT_READ       1 /* the backend may read the frame */
 #define KH_GRANT_READ_WRITE 2 /* read and write it */
 
-#define KH_TAGS          32  /* requests that a port can have in flight: tags 0 to 31 */
+#define KH_TAGS          64  /* requests that a port can have in flight, at most: kh_slots(pages), tags from 0 on */
 #define KH_EXTENTS       11  /* extents that a plan can have */
 #define KH_SECTOR_BYTES  512 /* a sector, in every number here, whatever the node sector-size says */
 #define KH_FRAME_SECTORS 8   /* sectors of a frame */
@@ -116,7 +120,7 @@ enum kh_node {
     KH_NODE_SECTOR_SIZE = 6,     /* 512, 1024, 2048 or 4096; must be there */
     KH_NODE_SECTORS = 7,         /* of 512 bytes, 0 to 2^64 - 1; must be there */
     KH_NODE_PROTOCOL = 8,        /* "x86_64-abi", also when absent, or "x86_32-abi": enum kh_abi */
-    KH_NODE_RING_PAGE_ORDER = 9, /* "0", also when absent */
+    KH_NODE_RING_PAGE_ORDER = 9, /* "0", also when absent: one page; "1": two */
     KH_NODES = 9
 };
 
@@ -128,7 +132,7 @@ enum kh_refusal {
     KH_NOT_CLOSED = 3,      /* the port is open or broken (open) */
     KH_IS_CLOSED = 4,       /* the port is closed (close, complete) */
     KH_IN_FLIGHT = 5,       /* requests in flight (close) */
-    KH_NOT_BUSY = 6,        /* tag above 31, not busy, or busy with another serial (complete) */
+    KH_NOT_BUSY = 6,        /* tag beyond the ring's slots, not busy, or busy with another serial (complete) */
     KH_SHEET_SHAPE = 11,    /* sheet empty, more than 9 entries, a reserved byte not 0, wrong total length (open) */
     KH_SHEET_NODES = 12,    /* a node 0 or above 9, or no greater than the one before (open) */
     KH_SHEET_TEXT = 13,     /* nodes 1 to 5 and 8: any other text; 6, 7 and 9: no number (open) */
@@ -213,7 +217,7 @@ typedef struct {
 } kh_memory;
 
 /*
- * Opens a closed port for the disk that the sheet describes: indices 0, nothing in flight. The ring page is not
+ * Opens a closed port for the disk that the sheet describes: indices 0, nothing in flight. The rings are not
  * touched.
  *
  * A sheet is one byte, the number of entries (0 to 9); for each entry 4 bytes: node, 0, length of its body (16 bits,
@@ -293,9 +297,9 @@ void kh_meter_completion(kh_meter *meter, uint32_t returned, const uint64_t *ans
  * nothing of a backend, and a backend nothing of it; both know the page.
  *
  * Guest memory has the guest's own two indices, requests put and responses collected, and of each outstanding request
- * (put, and its response not yet collected) the id and the operation; there are KH_SLOTS of them at most. All zeros are
- * a fresh guest, which goes with a page of zeros: `static kh_guest guest;` is one. What the words hold is the library's
- * business.
+ * (put, and its response not yet collected) the id and the operation; its ring has one page, so there are KH_PAGE_SLOTS
+ * of them at most. All zeros are a fresh guest, which goes with a page of zeros: `static kh_guest guest;` is one. What
+ * the words hold is the library's business.
  *
  * The guest never takes req_prod or rsp_event from the page: both are its own.
  */
@@ -372,23 +376,38 @@ static inline bool kh_is_text(const uint8_t *bytes, size_t count, const char *te
 }
 
 /*
- * The layout of the guest that a sheet is for: what a host has to know of the sheet that it opened a port with, to copy
- * slots and responses. Any bytes may be given, and none outside them is read; of a sheet that kh_open refuses, the
- * answer says nothing.
+ * Whether a sheet has that node with that text. Any bytes may be given, and none outside them is read; of a sheet that
+ * kh_open refuses, the answer says nothing.
  */
-static inline enum kh_abi kh_read_abi(const uint8_t *sheet, size_t sheet_bytes) {
+static inline bool kh_sheet_says(const uint8_t *sheet, size_t sheet_bytes, enum kh_node node, const char *text) {
     size_t entries = sheet_bytes > 0 ? sheet[0] : 0;
     size_t body = 1 + 4 * entries;
     size_t i;
     for (i = 0; i < entries && body <= sheet_bytes; i++) {
         const uint8_t *entry = sheet + 1 + 4 * i;
         size_t length = entry[2] + (size_t)256 * entry[3];
-        if (entry[0] == KH_NODE_PROTOCOL && length <= sheet_bytes - body &&
-            kh_is_text(sheet + body, length, "x86_32-abi"))
-            return KH_BITS32;
+        if (entry[0] == node && length <= sheet_bytes - body && kh_is_text(sheet + body, length, text))
+            return true;
         body += length;
     }
-    return KH_BITS64;
+    return false;
+}
+
+/*
+ * The layout of the guest that a sheet is for, and the pages of its ring, 1 or 2: what a host has to know of the sheet
+ * that it opened a port with, to copy slots and responses.
+ */
+static inline enum kh_abi kh_read_abi(const uint8_t *sheet, size_t sheet_bytes) {
+    return kh_sheet_says(sheet, sheet_bytes, KH_NODE_PROTOCOL, "x86_32-abi") ? KH_BITS32 : KH_BITS64;
+}
+
+static inline uint32_t kh_read_pages(const uint8_t *sheet, size_t sheet_bytes) {
+    return kh_sheet_says(sheet, sheet_bytes, KH_NODE_RING_PAGE_ORDER, "1") ? 2 : 1;
+}
+
+/* The slots of a ring of so many pages: also the tags of its port. */
+static inline uint32_t kh_slots(uint32_t pages) {
+    return KH_PAGE_SLOTS * pages;
 }
 
 /* The bytes of a slot, and of a response, in a layout. */
@@ -569,10 +588,13 @@ static inline kh_collected kh_read_collected(const uint64_t *answer) {
 KH_HOLDS(lengths_have_64_bits, sizeof(size_t) == 8 && sizeof(void *) == 8);
 KH_HOLDS(memory_is_its_words, sizeof(kh_memory) == 8 * KH_MEMORY_WORDS);
 KH_HOLDS(a_meter_is_four_words, sizeof(kh_meter) == 32 && offsetof(kh_meter, not_supported) == 24);
-KH_HOLDS(rings_are_a_page_a_port, KH_RINGS_BYTES == KH_PORTS * KH_RING_BYTES);
+KH_HOLDS(rings_are_a_share_a_port, KH_RINGS_BYTES == KH_PORTS * KH_RING_BYTES);
+KH_HOLDS(a_share_has_every_page, KH_RING_BYTES == KH_RING_PAGES * KH_PAGE_BYTES);
+KH_HOLDS(every_slot_has_a_tag, KH_TAGS == KH_RING_PAGES * KH_PAGE_SLOTS);
 KH_HOLDS(grants_are_a_share_a_port, KH_GRANTS_BYTES == KH_PORTS * KH_PORT_GRANTS);
-KH_HOLDS(slots_fit_the_page, KH_HEADER_BYTES + KH_SLOTS * KH_SLOT_BYTES <= KH_RING_BYTES);
-KH_HOLDS(slots_fit_the_guests_page, KH_HEADER_BYTES + KH_SLOTS * KH_SLOT_BYTES <= KH_GUEST_PAGE_BYTES);
+KH_HOLDS(slots_fit_one_page, KH_HEADER_BYTES + KH_PAGE_SLOTS * KH_SLOT_BYTES <= KH_PAGE_BYTES);
+KH_HOLDS(slots_fit_two_pages, KH_HEADER_BYTES + KH_TAGS * KH_SLOT_BYTES <= KH_RING_BYTES);
+KH_HOLDS(a_guests_ring_has_one_page, KH_GUEST_PAGE_BYTES == KH_PAGE_BYTES);
 KH_HOLDS(a_response_fits_its_slot, KH_RESPONSE_BYTES <= KH_SLOT_BYTES);
 KH_HOLDS(no_slot_is_larger, KH_SLOT32_BYTES <= KH_SLOT_BYTES);
 KH_HOLDS(no_response_is_larger, KH_RESPONSE32_BYTES <= KH_RESPONSE_BYTES);

@@ -2,7 +2,7 @@
 
 use crate::{Ask, Both};
 use kernelharp::layout::{
-    page, write_u32, GRANTS_BYTES, PORTS, PORT_GRANTS, REQ_PROD, RINGS_BYTES, RING_BYTES,
+    ring, write_u32, GRANTS_BYTES, PORTS, PORT_GRANTS, REQ_PROD, RINGS_BYTES, RING_BYTES,
 };
 use kernelharp::Completion;
 use second::{Done, Plan, Reason, Refusal, Turned};
@@ -36,6 +36,14 @@ impl Bench {
         }
     }
 
+    /// A backend with port 0 open, which stands at C = R = `index`.
+    pub fn open_at(sheet: &[u8], index: u32) -> Bench {
+        let mut bench = Bench::open(sheet);
+        bench.backend.skip(0, index);
+        bench.set_req_prod(0, index);
+        bench
+    }
+
     /// A backend with port 0 open.
     pub fn open(sheet: &[u8]) -> Bench {
         let mut bench = Bench::new();
@@ -48,12 +56,12 @@ impl Bench {
         self.grants[PORT_GRANTS * port + frame] = grant;
     }
 
-    /// A port's ring page.
-    pub fn page(&self, port: usize) -> &[u8] {
-        page(&self.rings, port)
+    /// A port's share of the rings.
+    pub fn ring(&self, port: usize) -> &[u8] {
+        ring(&self.rings, port)
     }
 
-    /// Writes a number on a port's page.
+    /// Writes a number on a port's ring.
     pub fn set_u32(&mut self, port: usize, at: usize, value: u32) {
         write_u32(&mut self.rings, RING_BYTES * port + at, value);
     }
@@ -64,17 +72,18 @@ impl Bench {
         self.set_u32(port, REQ_PROD, value);
     }
 
-    /// A slot of a port's page, in the layout of the port.
+    /// A slot of a port's ring.
     pub fn slot(&self, port: usize, index: u32) -> &[u8] {
-        let abi = self.backend.abi(port);
-        &self.page(port)[abi.slot_at(index)..][..abi.slot_bytes()]
+        let kind = self.backend.ring(port);
+        &self.ring(port)[kind.slot_at(index)..][..kind.abi.slot_bytes()]
     }
 
-    /// Puts a request into a slot of a port's page, in the layout of the port.
+    /// Puts a request into a slot of a port's ring.
     pub fn put(&mut self, port: usize, index: u32, ask: &Ask) {
-        let abi = self.backend.abi(port);
-        let bytes = ask.bytes(abi);
-        self.rings[RING_BYTES * port + abi.slot_at(index)..][..bytes.len()].copy_from_slice(&bytes);
+        let kind = self.backend.ring(port);
+        let at = RING_BYTES * port + kind.slot_at(index);
+        let bytes = ask.bytes(kind.abi);
+        self.rings[at..][..bytes.len()].copy_from_slice(&bytes);
     }
 
     /// Puts a request where the guest's next one belongs.

@@ -2,8 +2,8 @@
 //! alike, so a test written for the one holds for the other.
 
 use crate::Records;
-use generate::{done_words, for_second, turn_words, UNTOUCHED};
-use kernelharp::layout::{Abi, PORTS};
+use generate::{done_words, for_second, turn_words, Core, Ring, UNTOUCHED};
+use kernelharp::layout::PORTS;
 use kernelharp::words::{DONE_WORDS, TURN_WORDS};
 use kernelharp::{Completion, Memory, Turn};
 use second::{Done, Plan, Refusal, Turned};
@@ -13,8 +13,8 @@ use second::{Done, Plan, Refusal, Turned};
 pub struct Both {
     second: second::Backend,
     archive: Memory,
-    /// The layout of each port's last opening.
-    abis: [Abi; PORTS],
+    /// The ring of each port's last opening.
+    rings: [Ring; PORTS],
     /// What their hosts have counted.
     pub records: Records,
 }
@@ -42,14 +42,20 @@ impl Both {
         Both {
             second: second::Backend::new(),
             archive: Memory::new().expect("an archive of this package"),
-            abis: [Abi::default(); PORTS],
+            rings: [Ring::default(); PORTS],
             records: Records::default(),
         }
     }
 
-    /// The layout that a port was opened with last.
-    pub fn abi(&self, port: usize) -> Abi {
-        self.abis[port]
+    /// The ring that a port was opened with last.
+    pub fn ring(&self, port: usize) -> Ring {
+        self.rings[port]
+    }
+
+    /// Has a port that was just opened pass over requests, each taken and answered.
+    pub fn skip(&mut self, port: usize, requests: u32) {
+        self.second.skip(port, requests);
+        Core::skip(&mut self.archive, port, requests);
     }
 
     /// Opens a port.
@@ -58,7 +64,7 @@ impl Both {
         let code = self.archive.open(port, sheet);
         assert_eq!((code, []), due(&answer, |()| []));
         if answer.is_ok() {
-            self.abis[port as usize] = Abi::of_sheet(sheet);
+            self.rings[port as usize] = Ring::of_sheet(sheet);
         }
         answer
     }

@@ -1,6 +1,7 @@
 //! What the tests build: node sheets ([`sheet`]), requests ([`Ask`]), a [`Bench`] with the second
-//! program and the archive side by side ([`Both`]), their hosts' [`Records`], their [`Guests`],
-//! histories made by hand ([`Story`]), and the two sides of a ring in steps ([`wakeup`]).
+//! program and the archive side by side ([`Both`]), their hosts' [`Records`], their [`Guests`], a
+//! program's [`Twin`] on other bytes, histories made by hand ([`Story`]), and the two sides of a ring in
+//! steps ([`wakeup`]).
 
 mod ask;
 mod bench;
@@ -10,6 +11,7 @@ mod hex;
 mod records;
 mod sheets;
 mod story;
+mod twin;
 pub mod wakeup;
 
 pub use ask::Ask;
@@ -19,9 +21,10 @@ pub use guests::Guests;
 pub use hex::bytes;
 pub use records::Records;
 pub use sheets::{
-    full_sheet, sheet, sheet_number, usual_sheet, usual_sheet_of, with_node, with_protocol,
+    full_sheet, sheet, sheet_number, usual_sheet, usual_sheet_of, with_node, with_ring,
 };
 pub use story::{faulty, Checked, Pair, Story};
+pub use twin::Twin;
 
 /// The README's listings, compiled and run with the tests.
 #[cfg(doctest)]

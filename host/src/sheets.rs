@@ -1,7 +1,8 @@
 //! Node sheets of the tests.
 
 use crate::Both;
-use kernelharp::layout::Abi;
+use generate::Ring;
+use kernelharp::layout::Pages;
 use std::collections::BTreeMap;
 
 /// A sheet of entries, with the table of contents that belongs to them.
@@ -49,18 +50,30 @@ pub fn full_sheet(mode: &str, sector_size: &str, sectors: &str) -> Vec<u8> {
     ])
 }
 
-/// A sheet that has nothing behind node 7, with the node protocol added to it.
-pub fn with_protocol(sheet: &[u8], abi: Abi) -> Vec<u8> {
-    let text = abi.protocol();
+/// A sheet that has nothing behind node 7, with the nodes of the guest's ring added to it: both of them, or
+/// only the first where that has one page.
+pub fn with_ring(sheet: &[u8], ring: impl Into<Ring>) -> Vec<u8> {
+    let Ring { abi, pages } = ring.into();
+    let sheet = with_last(sheet, 8, abi.protocol());
+    if pages == Pages::One {
+        sheet
+    } else {
+        with_last(&sheet, 9, pages.order())
+    }
+}
+
+/// A sheet with one more node behind all others.
+fn with_last(sheet: &[u8], node: u8, text: &str) -> Vec<u8> {
     let (table, bodies) = sheet.split_at(1 + 4 * usize::from(sheet[0]));
-    let mut longer = [table, &[8, 0, text.len() as u8, 0], bodies, text.as_bytes()].concat();
+    let line = [node, 0, text.len() as u8, 0];
+    let mut longer = [table, &line, bodies, text.as_bytes()].concat();
     longer[0] += 1;
     longer
 }
 
-/// The disk of the worked cases, with every feature, of a guest of this layout.
-pub fn usual_sheet_of(abi: Abi) -> Vec<u8> {
-    with_protocol(&usual_sheet(), abi)
+/// The disk of the worked cases, with every feature, of a guest with this ring.
+pub fn usual_sheet_of(ring: impl Into<Ring>) -> Vec<u8> {
+    with_ring(&usual_sheet(), ring)
 }
 
 /// The disk of the worked cases, with every feature.

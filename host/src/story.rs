@@ -1,8 +1,9 @@
 //! Histories made by hand, for the checker: no backend is in them.
 
 use crate::{usual_sheet, usual_sheet_of};
+use generate::Ring;
 use history::{Event, History, Record};
-use kernelharp::layout::{write_u32, Abi, GRANTS_BYTES, PORTS, REQ_PROD, RINGS_BYTES, RING_BYTES};
+use kernelharp::layout::{write_u32, GRANTS_BYTES, PORTS, REQ_PROD, RINGS_BYTES, RING_BYTES};
 use kernelharp::words::{done, kind, turn, DONE_WORDS, TURN_WORDS};
 
 /// A history with the first `ports` ports open, and the rings lent to it. All requests are
@@ -23,7 +24,7 @@ pub type Checked = Result<(), String>;
 pub type Pair = (u64, u8);
 
 impl Story {
-    /// The first `ports` ports are open, and no request is on any page.
+    /// The first `ports` ports are open, and no request is on any ring.
     pub fn new(ports: u32) -> Story {
         let mut story = Story {
             history: History::new(),
@@ -36,10 +37,10 @@ impl Story {
         story
     }
 
-    /// A history with port 0 open in a layout, and `req_prod` requests on its page.
-    pub fn of(abi: Abi, req_prod: u32) -> Story {
+    /// A history with port 0 open with a ring, and `req_prod` requests on it.
+    pub fn of(ring: impl Into<Ring>, req_prod: u32) -> Story {
         let mut story = Story::new(0);
-        story.open_sheet(0, &usual_sheet_of(abi), 0).unwrap();
+        story.open_sheet(0, &usual_sheet_of(ring), 0).unwrap();
         story.publish_up_to(0, req_prod);
         story
     }
@@ -65,25 +66,31 @@ impl Story {
         self.left.clone_from(&self.rings);
     }
 
-    /// Port 0's guest writes a request's pair.
-    pub fn ask(&mut self, abi: Abi, index: u32, (id, operation): Pair) {
-        let at = abi.slot_at(index);
+    /// Port 0's guest writes a request's pair, where a ring has it.
+    pub fn ask(&mut self, ring: impl Into<Ring>, index: u32, (id, operation): Pair) {
+        let ring = ring.into();
+        let at = ring.slot_at(index);
         self.rings[at] = operation;
-        self.rings[at + abi.id_at()..][..8].copy_from_slice(&id.to_le_bytes());
+        self.rings[at + ring.abi.id_at()..][..8].copy_from_slice(&id.to_le_bytes());
         self.left.clone_from(&self.rings);
     }
 
-    /// The next call leaves a response's pair on port 0's page.
-    pub fn answer(&mut self, abi: Abi, index: u32, (id, operation): Pair) {
-        let at = abi.slot_at(index);
+    /// The next call leaves a response's pair on port 0's ring.
+    pub fn answer(&mut self, ring: impl Into<Ring>, index: u32, (id, operation): Pair) {
+        let at = ring.into().slot_at(index);
         self.left[at..][..8].copy_from_slice(&id.to_le_bytes());
         self.left[at + 8] = operation;
     }
 
-    /// The next call leaves a response's status on port 0's page.
-    pub fn answer_status(&mut self, abi: Abi, index: u32, status: i16) {
-        let at = abi.slot_at(index) + 10;
+    /// The next call leaves a response's status on port 0's ring.
+    pub fn answer_status(&mut self, ring: impl Into<Ring>, index: u32, status: i16) {
+        let at = ring.into().slot_at(index) + 10;
         self.left[at..][..2].copy_from_slice(&status.to_le_bytes());
+    }
+
+    /// A port that was just opened passes over requests.
+    pub fn skip(&mut self, port: usize, requests: u32) -> Checked {
+        self.history.check(&Event::Skipped { port, requests })
     }
 
     /// The host zeroes a port's record.

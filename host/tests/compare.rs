@@ -7,6 +7,10 @@
 //! are, too, to records of any numbers. The counts of what occurred are printed, and a class that did
 //! not occur fails the test.
 //!
+//! Half of the ports that are opened begin at indices close to 2^32 or to a multiple of 64: they are set to
+//! them in both programs, as they would be after so many requests that were taken and answered, and the
+//! checker counts on from there.
+//!
 //! The guest's half is compared likewise: by itself, on pages that a made-up backend writes, and
 //! together with the backend on one page, where what is claimed of both halves is checked as well.
 //!
@@ -22,6 +26,7 @@ use generate::{GuestCensus, Halves, HalvesReport};
 use kernelharp::{GuestMemory, Memory};
 use second::{Backend, Guest};
 use std::time::Instant;
+use tests::Twin;
 
 const SEED: u64 = 20_010_000;
 const CALLS: u64 = 2_000_000;
@@ -74,6 +79,25 @@ fn archive_and_second_program_agree() {
     println!("did not occur: {missing:?}");
     assert!(calls < CALLS || missing.is_empty());
     assert!(calls < CALLS || longest_wait == 7);
+}
+
+/// Calls of each list that the archive's twin takes part in. They are short, for the two memories are
+/// compared at their end.
+const TWIN_CALLS: u64 = 2_000;
+
+/// What is behind a ring of one page, and in the share of a closed port, has no influence on the archive.
+#[test]
+fn the_archive_and_its_twin_agree() {
+    let begun = Instant::now();
+    let seed = setting("KH_SEED", SEED);
+    for seed in (0..75).map(|number| seed.wrapping_add(number)) {
+        let mut archive = Memory::new().expect("an archive of this package");
+        let mut twin = Twin::new(archive.clone());
+        let agreed = run(&mut [&mut archive, &mut twin], seed, TWIN_CALLS);
+        agreed.map(drop).unwrap_or_else(|at| panic!("{at}"));
+        assert!(archive == twin.core, "seed {seed}: the memories differ");
+    }
+    println!("{:?}", begun.elapsed());
 }
 
 #[test]

@@ -1,6 +1,7 @@
 //! The checker of demand 3 says no where it has to: histories made by hand, no backend in them.
 
-use kernelharp::layout::{Abi, REQ_EVENT};
+use generate::Ring;
+use kernelharp::layout::{Abi, Pages, PAGE_BYTES, REQ_EVENT};
 use kernelharp::words::turn;
 use tests::{faulty, usual_sheet_of, Pair, Story};
 
@@ -91,6 +92,98 @@ fn overrun_against_the_rule() {
     faulty(story.open(0, 0), "due was 3");
 }
 
+/// The line is where the ring of the port's last opening has it.
+#[test]
+fn overrun_by_the_rings_size() {
+    for ring in Ring::ALL {
+        let slots = ring.slots();
+        for in_flight in [0, 1, 31] {
+            let mut story = Story::of(ring, in_flight);
+            for tag in 0..u64::from(in_flight) {
+                story.started(0, tag, tag).unwrap();
+            }
+            story.publish_up_to(0, slots);
+            faulty(story.overrun(0), "not due");
+            let mut story = Story::of(ring, in_flight);
+            for tag in 0..u64::from(in_flight) {
+                story.started(0, tag, tag).unwrap();
+            }
+            story.publish_up_to(0, slots + 1);
+            faulty(story.answered(0), "an overrun was due");
+        }
+    }
+}
+
+/// With every tag busy a start has none to name.
+#[test]
+fn tags_by_the_rings_size() {
+    for ring in Ring::ALL {
+        let slots = u64::from(ring.slots());
+        let mut story = Story::of(ring, ring.slots());
+        for tag in 0..slots {
+            story.started(0, tag, tag).unwrap();
+        }
+        let last = ring.slots() - 1;
+        faulty(story.complete(0, last, last, 6), "due was 0");
+        faulty(story.complete(0, last + 1, last + 1, 0), "due was 6");
+        story.complete(0, last, last, 0).unwrap();
+        story.publish_up_to(0, ring.slots() + 1);
+        faulty(story.started(0, slots, slots), "due were");
+    }
+}
+
+/// What is behind a ring of one page stays; of two pages there is nothing behind.
+#[test]
+fn a_call_that_writes_behind_a_ring() {
+    for ring in Ring::ALL {
+        for at in [PAGE_BYTES, 2 * PAGE_BYTES - 1] {
+            let mut story = Story::of(ring, 2);
+            story.started(0, 0, 0).unwrap();
+            story.left[at] ^= 1;
+            let completed = story.complete(0, 0, 0, 0);
+            let mut story = Story::of(ring, 2);
+            story.left[at] ^= 1;
+            let answered = story.answered(0);
+            if ring.pages == Pages::Two {
+                completed.and(answered).unwrap();
+            } else {
+                faulty(completed, "behind a ring");
+                faulty(answered, "behind a ring");
+            }
+        }
+    }
+}
+
+/// Indices go on from where a port begins, past 2^32, and only a port just opened passes over requests.
+#[test]
+fn requests_passed_over() {
+    for ring in Ring::ALL {
+        let mut story = Story::of(ring, 0);
+        faulty(story.skip(1, 5), "was not just opened");
+        faulty(story.skip(8, 5), "was not just opened");
+        story.skip(0, u32::MAX - 1).unwrap();
+        faulty(story.skip(0, 1), "was not just opened");
+        story.publish_up_to(0, 3);
+        for (index, pair) in (u32::MAX - 1..=u32::MAX).chain(0..1).zip(ASKED) {
+            story.ask(ring, index, pair);
+            let tag = u64::from(index.wrapping_add(2));
+            story.started(0, tag, u64::from(index)).unwrap();
+        }
+        faulty(story.started(0, 3, 2), "due were 3 and 1");
+        let mut story = Story::of(ring, 0);
+        story.skip(0, u32::MAX).unwrap();
+        story.publish_up_to(0, ring.slots());
+        faulty(story.answered(0), "an overrun was due");
+        story.publish_up_to(0, ring.slots() - 1);
+        story.ask(ring, u32::MAX, ASKED[0]);
+        story.answer(ring, u32::MAX, ASKED[0]);
+        story.answered(0).unwrap();
+        story.ask(ring, 0, ASKED[1]);
+        story.answer(ring, ring.slots() - 1, ASKED[1]);
+        faulty(story.answered(0), "pairs taken");
+    }
+}
+
 #[test]
 fn overrun_counts_what_is_in_flight() {
     let mut story = Story::new(1);
@@ -118,13 +211,13 @@ fn starts_name_lowest_tag_and_serial() {
 
 #[test]
 fn an_answer_with_another_pair() {
-    for abi in Abi::ALL {
-        let mut story = Story::of(abi, 9);
-        story.answer(abi, 0, (0, 1));
+    for ring in Ring::ALL {
+        let mut story = Story::of(ring, 9);
+        story.answer(ring, 0, (0, 1));
         faulty(story.answered(0), "pairs taken");
-        let mut story = Story::of(abi, 9);
+        let mut story = Story::of(ring, 9);
         story.started(0, 0, 0).unwrap();
-        story.answer(abi, 0, (1, 0));
+        story.answer(ring, 0, (1, 0));
         faulty(story.complete(0, 0, 0, 0), "pairs taken");
     }
 }

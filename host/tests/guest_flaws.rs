@@ -2,7 +2,8 @@
 
 use generate::{run_guests, GuestCore};
 use kernelharp::layout::{
-    read_u32, write_u32, Abi, REQ_EVENT, REQ_PROD, RING_BYTES, RSP_EVENT, RSP_PROD, SLOT_BYTES,
+    read_u32, write_u32, Abi, Pages, PAGE_BYTES, REQ_EVENT, REQ_PROD, RSP_EVENT, RSP_PROD,
+    SLOT_BYTES,
 };
 use kernelharp::words::{collect, request, segment, CollectWords, PutWords, RequestWords};
 use second::Guest;
@@ -81,7 +82,7 @@ impl Flawed {
 
     /// What the flaw makes of the slot that was written.
     fn spoil_slot(&self, lent: &[u8], page: &mut [u8], words: &RequestWords) {
-        let at = Abi::Bits64.slot_at(read_u32(page, REQ_PROD).wrapping_sub(1));
+        let at = Abi::Bits64.slot_at(Pages::One, read_u32(page, REQ_PROD).wrapping_sub(1));
         let slot = &mut page[at..at + SLOT_BYTES];
         let start = words[request::START].to_le_bytes();
         match (self.flaw, words[request::OPERATION]) {
@@ -100,7 +101,7 @@ impl Flawed {
     /// What the flaw sees of a page.
     fn misread_page(&self, page: &mut [u8]) -> bool {
         let ahead = read_u32(page, RSP_PROD).wrapping_sub(self.collected);
-        let response = &page[Abi::Bits64.slot_at(self.collected)..][..16];
+        let response = &page[Abi::Bits64.slot_at(Pages::One, self.collected)..][..16];
         match self.flaw {
             Flaw::BehindIsNothing if ahead >= 1 << 31 => {
                 write_u32(page, RSP_PROD, self.collected);
@@ -133,7 +134,7 @@ impl GuestCore for Flawed {
     }
 
     fn collect(&mut self, page: &mut [u8], answer: &mut CollectWords) -> u32 {
-        if page.len() != RING_BYTES {
+        if page.len() != PAGE_BYTES {
             return GuestCore::collect(&mut self.guest, page, answer);
         }
         let mut seen = page.to_vec();

@@ -3,7 +3,8 @@
 
 use generate::{run_guests, GuestCore, Random, UNTOUCHED};
 use kernelharp::layout::{
-    read_u32, write_u32, Abi, REQ_EVENT, REQ_PROD, RING_BYTES, RSP_EVENT, RSP_PROD, SLOT_BYTES,
+    read_u32, write_u32, Abi, Pages, PAGE_BYTES, REQ_EVENT, REQ_PROD, RSP_EVENT, RSP_PROD,
+    SLOT_BYTES,
 };
 use kernelharp::words::{request, segment, CollectWords, PutWords, RequestWords};
 use kernelharp::words::{COLLECT_WORDS, PUT_WORDS};
@@ -13,13 +14,13 @@ use tests::{bytes, Ask, Guests};
 
 /// A page of one byte all over; its rsp_prod is 0.
 fn page_of(byte: u8) -> Vec<u8> {
-    let mut page = vec![byte; RING_BYTES];
+    let mut page = vec![byte; PAGE_BYTES];
     write_u32(&mut page, RSP_PROD, 0);
     page
 }
 
 fn slot_at(index: u32) -> usize {
-    Abi::Bits64.slot_at(index)
+    Abi::Bits64.slot_at(Pages::One, index)
 }
 
 /// A flush.
@@ -351,7 +352,7 @@ fn any_words_are_a_guest() {
         let mut guest = GuestMemory::new().expect("an archive of this package");
         let bits = random.pick(&[1, 5, 6, 32, 33, 64]);
         guest.words_mut().fill_with(|| random.word() >> (64 - bits));
-        let mut page = vec![0; RING_BYTES];
+        let mut page = vec![0; PAGE_BYTES];
         random.fill(&mut page);
         for id in 0..8 {
             let before = (page.clone(), guest.clone());
@@ -374,7 +375,7 @@ fn any_words_are_a_guest() {
 
 /// What was written is one slot and req_prod, or rsp_event.
 fn check_written(before: &[u8], after: &[u8]) {
-    let written: Vec<usize> = (0..RING_BYTES)
+    let written: Vec<usize> = (0..PAGE_BYTES)
         .filter(|&at| before[at] != after[at])
         .collect();
     let slot = slot_at(read_u32(after, REQ_PROD).wrapping_sub(1));

@@ -1,11 +1,11 @@
 //! Both halves on one page (section 16 of docs/RULES.md): what is claimed of them holds of the second
 //! program's, and the checker of it says no to pairs in which either half is wrong.
 
-use generate::{run_halves, Core, GuestCore, Halves, HalvesReport};
+use generate::{run_halves, Core, GuestCore, Halves, HalvesReport, Ring};
 use history::{Event, HalvesEvent, HalvesHistory};
 use kernelharp::layout::{
-    page_mut, read_u32, read_u64, write_u32, Abi, GRANTS_BYTES, REQ_EVENT, REQ_PROD,
-    RESPONSE_BYTES, RINGS_BYTES, RING_BYTES, RSP_EVENT, RSP_PROD, SLOT_BYTES,
+    read_u32, read_u64, ring_mut, write_u32, Abi, Pages, GRANTS_BYTES, PAGE_BYTES, REQ_EVENT,
+    REQ_PROD, RESPONSE_BYTES, RINGS_BYTES, RSP_EVENT, RSP_PROD, SLOT_BYTES,
 };
 use kernelharp::words::{done, kind, request, turn, TURN_WORDS};
 use kernelharp::words::{CollectWords, DoneWords, PutWords, RequestWords, TurnWords};
@@ -14,11 +14,11 @@ use second::{Backend, Guest};
 use tests::{faulty, usual_sheet_of, Ask};
 
 /// The guest's port is 3, which is the seed modulo 8. Its disk has discards.
-const SEED: u64 = 0x6861_6C76_6573 / 8 * 8 + 91;
+const SEED: u64 = 0x6861_6C76_6573 / 8 * 8 + 131;
 const PORT: usize = 3;
 
 fn slot_at(index: u32) -> usize {
-    Abi::Bits64.slot_at(index)
+    Abi::Bits64.slot_at(Pages::One, index)
 }
 
 #[test]
@@ -93,7 +93,7 @@ impl FlawedGuest {
 
     /// A request's slot, as a fresh guest writes it.
     fn slot(&self, words: &RequestWords) -> Result<Vec<u8>, u32> {
-        let mut page = [0; RING_BYTES];
+        let mut page = [0; PAGE_BYTES];
         let put = Guest::new().put(&mut page, words);
         put.map_err(|refusal| refusal as u32)?;
         let mut slot = page[slot_at(0)..][..SLOT_BYTES].to_vec();
@@ -113,7 +113,7 @@ impl FlawedGuest {
             32
         };
         let known = self.outstanding.iter().any(|&(known, _)| known == id);
-        if page.len() != RING_BYTES {
+        if page.len() != PAGE_BYTES {
             1
         } else if self.outstanding.len() == most {
             31
@@ -159,7 +159,7 @@ impl GuestCore for FlawedGuest {
 
     fn collect(&mut self, page: &mut [u8], answer: &mut CollectWords) -> u32 {
         self.calls += 1;
-        if page.len() != RING_BYTES {
+        if page.len() != PAGE_BYTES {
             return 1;
         }
         let ahead = read_u32(page, RSP_PROD).wrapping_sub(self.collected);
@@ -277,6 +277,10 @@ impl Core for FlawedBackend {
         Core::open(&mut self.backend, port, sheet)
     }
 
+    fn skip(&mut self, port: usize, requests: u32) {
+        self.backend.skip(port, requests);
+    }
+
     fn close(&mut self, port: u32) -> u32 {
         Core::close(&mut self.backend, port)
     }
@@ -290,7 +294,7 @@ impl Core for FlawedBackend {
             *answer = [0; TURN_WORDS];
         }
         match answer[turn::KIND] {
-            kind::ANSWERED => self.spoil_response(page_mut(rings, PORT)),
+            kind::ANSWERED => self.spoil_response(ring_mut(rings, PORT)),
             kind::STARTED => self.spoil_turn(answer),
             _ => {}
         }
@@ -300,7 +304,7 @@ impl Core for FlawedBackend {
     fn complete(&mut self, rings: &mut [u8], named: Completion, answer: &mut DoneWords) -> u32 {
         let code = Core::complete(&mut self.backend, rings, named, answer);
         if code == 0 && answer[done::PORT] == PORT as u64 {
-            self.spoil_response(page_mut(rings, PORT));
+            self.spoil_response(ring_mut(rings, PORT));
         }
         code
     }
@@ -373,18 +377,21 @@ fn flawed_backends_break_the_claim() {
 }
 
 /// An open, or a close, of a port.
-fn opened(halves: &mut HalvesHistory, port: u32, abi: Abi) -> Result<(), String> {
-    let sheet = &usual_sheet_of(abi);
+fn opened(halves: &mut HalvesHistory, port: u32, ring: impl Into<Ring>) -> Result<(), String> {
+    let sheet = &usual_sheet_of(ring);
     let code = 0;
     halves.check(&HalvesEvent::Backend(Event::Open { port, sheet, code }))
 }
 
-/// Of a port that is opened again, or for a 32-bit guest, nothing is claimed, and the checker says so.
+/// Of a port that is opened again, for a 32-bit guest or with two pages, nothing is claimed, and the
+/// checker says so.
 #[test]
 fn runs_of_another_kind() {
     let mut halves = HalvesHistory::new(PORT);
-    let words = "a 64-bit one that is opened once";
-    faulty(opened(&mut halves, PORT as u32, Abi::Bits32), words);
+    let words = "a 64-bit one with one page that is opened once";
+    for ring in &Ring::ALL[1..] {
+        faulty(opened(&mut halves, PORT as u32, *ring), words);
+    }
     opened(&mut halves, 0, Abi::Bits32).unwrap();
     opened(&mut halves, PORT as u32, Abi::Bits64).unwrap();
     faulty(opened(&mut halves, PORT as u32, Abi::Bits64), words);
@@ -396,7 +403,7 @@ fn runs_of_another_kind() {
 
 #[test]
 fn somebody_else_writes_the_page() {
-    let (mut halves, mut lent) = (HalvesHistory::new(PORT), vec![0; RING_BYTES]);
+    let (mut halves, mut lent) = (HalvesHistory::new(PORT), vec![0; PAGE_BYTES]);
     let mut left = lent.clone();
     let request = &Ask::usual_read().words();
     Guest::new().put(&mut left, request).unwrap();
@@ -418,7 +425,7 @@ fn somebody_else_writes_the_page() {
     };
     faulty(halves.check(&collect), "not as the last call left it");
     let (mut rings, grants) = (vec![0; RINGS_BYTES], [0; GRANTS_BYTES]);
-    page_mut(&mut rings, PORT).copy_from_slice(&lent);
+    ring_mut(&mut rings, PORT)[..PAGE_BYTES].copy_from_slice(&lent);
     let turn = HalvesEvent::Backend(Event::Turn {
         lent: &rings,
         left: &rings,

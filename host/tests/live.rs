@@ -1,32 +1,32 @@
-//! Live pages against pages that are lent: after each call of a random list the memory that stands
-//! in for the guests' pages holds, byte for byte, what the second program leaves in pages lent to
-//! it. The guests of these lists keep their hands off requests that wait, for a live page's are
-//! copied when first seen.
+//! Live rings against rings that are lent: after each call of a random list the memory that stands
+//! in for the guests' rings holds, byte for byte, what the second program leaves in rings lent to
+//! it. The guests of these lists keep their hands off requests that wait, for a live ring's are
+//! copied when first seen. Each guest has two pages mapped, apart in memory, whatever its port uses.
 
-use frontend::GuestPage;
-use generate::{Buffer, Call, Generator, Outcome, Step, World};
-use kernelharp::layout::{page, PORTS, PORT_GRANTS, RING_BYTES};
-use kernelharp::live::LiveBackend;
-use kernelharp::{Abi, Completion, Done, Name, Port, Refusal, Serial, Tag, Turn};
+use frontend::GuestRing;
+use generate::{Buffer, Call, Generator, Outcome, Ring, Step, World};
+use kernelharp::layout::{ring, PORTS, PORT_GRANTS, RING_BYTES};
+use kernelharp::live::{LiveBackend, NotOpened};
+use kernelharp::{Abi, Completion, Done, Name, Pages, Port, Refusal, Serial, Tag, Turn};
 use std::collections::HashSet;
 
-/// Eight guests' pages, and a backend over them.
+/// Eight guests' rings, and a backend over them.
 struct Live {
-    pages: [&'static GuestPage; PORTS],
+    rings: [&'static GuestRing; PORTS],
     backend: LiveBackend,
-    /// The layouts of the ports opened.
-    opened: HashSet<Abi>,
+    /// The kinds of rings that ports were opened with.
+    opened: HashSet<Ring>,
 }
 
 impl Live {
-    /// Pages of zeros.
+    /// Rings of zeros.
     fn new() -> Live {
-        let pages = std::array::from_fn(|_| GuestPage::new());
-        for page in &pages {
-            page.write(0, &[0; RING_BYTES]);
+        let rings = std::array::from_fn(|_| GuestRing::new());
+        for ring in &rings {
+            ring.write(0, &[0; RING_BYTES]);
         }
         Live {
-            pages,
+            rings,
             backend: LiveBackend::new().expect("an archive of this package"),
             opened: HashSet::new(),
         }
@@ -36,8 +36,8 @@ impl Live {
         for write in &step.writes {
             match write.buffer {
                 Buffer::Rings => {
-                    let page = self.pages[write.at / RING_BYTES];
-                    page.write(write.at % RING_BYTES, &write.bytes);
+                    let ring = self.rings[write.at / RING_BYTES];
+                    ring.write(write.at % RING_BYTES, &write.bytes);
                 }
                 Buffer::Grants => self.grant(write.at, &write.bytes),
             }
@@ -83,13 +83,14 @@ impl Live {
         refused: Result<(), Refusal>,
         due: &Outcome,
     ) {
-        let page = self.pages[port.index()];
+        let memory = self.rings[port.index()];
         let backend = &mut self.backend;
         match *call {
             Call::Open { ref sheet, .. } => {
-                let abi = Abi::of_sheet(sheet);
-                assert_eq!(backend.open(port, sheet, page.shared(abi)), refused);
-                self.opened.extend(refused.map(|()| abi));
+                let ring = Ring::of_sheet(sheet);
+                let opened = backend.open(port, sheet, memory.shared(ring.abi, Pages::Two));
+                assert_eq!(opened, refused.map_err(NotOpened::Refused));
+                self.opened.extend(refused.map(|()| ring));
             }
             Call::Close { .. } => assert_eq!(backend.close(port).map(|_| ()), refused),
             Call::Complete { named, .. } => {
@@ -108,15 +109,16 @@ impl Live {
 
     fn holds(&self, rings: &[u8]) -> bool {
         let mut bytes = [0; RING_BYTES];
-        self.pages.iter().enumerate().all(|(port, live)| {
+        self.rings.iter().enumerate().all(|(port, live)| {
             live.read(0, &mut bytes);
-            bytes == page(rings, port)
+            bytes == ring(rings, port)
         })
     }
 }
 
 #[test]
-fn live_pages_end_up_as_lent_ones() {
+fn live_rings_end_up_as_lent_ones() {
+    let mut opened = HashSet::new();
     for seed in 1..=10 {
         let mut generator = Generator::polite(seed);
         let (mut backend, mut world) = (second::Backend::new(), World::new());
@@ -130,7 +132,11 @@ fn live_pages_end_up_as_lent_ones() {
             assert!(same, "seed {seed}, step {number}: {:?}", step.call);
             generator.observe(&step.call, &outcome);
         }
-        let layouts = live.opened.len();
-        assert_eq!(layouts, Abi::ALL.len(), "seed {seed}: both layouts occur");
+        let layouts: HashSet<Abi> = live.opened.iter().map(|ring| ring.abi).collect();
+        let sizes: HashSet<Pages> = live.opened.iter().map(|ring| ring.pages).collect();
+        let kinds = (layouts.len(), sizes.len());
+        assert_eq!(kinds, (2, 2), "seed {seed}: both layouts and sizes occur");
+        opened.extend(live.opened);
     }
+    assert_eq!(opened.len(), Ring::ALL.len(), "every ring occurs");
 }

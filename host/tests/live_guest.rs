@@ -2,9 +2,9 @@
 //! answered alike, and both pages hold the same bytes. First with a backend on the other side, then
 //! with one that writes anything, and now and then what is due.
 
-use frontend::GuestPage;
+use frontend::GuestRing;
 use generate::Random;
-use kernelharp::layout::{REQ_EVENT, RING_BYTES, RSP_PROD, SEGMENTS};
+use kernelharp::layout::{Pages, PAGE_BYTES, REQ_EVENT, RSP_PROD, SEGMENTS};
 use kernelharp::live::{LiveBackend, LiveGuest};
 use kernelharp::{Abi, Backend, Guest, Plan, Port, Refusal, Request, Response, Segment, Turn};
 use std::collections::BTreeMap;
@@ -24,13 +24,13 @@ struct Both {
     lent_backend: Backend,
     live: LiveGuest,
     live_backend: LiveBackend,
-    page: &'static GuestPage,
+    page: &'static GuestRing,
     census: Census,
 }
 
 impl Both {
     fn new() -> Both {
-        let (page, port, abi) = (GuestPage::new(), Port::try_from(0).unwrap(), Abi::Bits64);
+        let (page, port, abi) = (GuestRing::new(), Port::try_from(0).unwrap(), Abi::Bits64);
         let mut both = Both {
             port,
             lent: Guest::new().unwrap(),
@@ -42,7 +42,9 @@ impl Both {
         };
         let sheet = usual_sheet_of(abi);
         both.lent_backend.open(port, &sheet).unwrap();
-        let opened = both.live_backend.open(port, &sheet, page.shared(abi));
+        let opened = both
+            .live_backend
+            .open(port, &sheet, page.shared(abi, Pages::One));
         opened.unwrap();
         both.lent_backend.grants_mut(port).fill(2);
         both.live_backend.grants_mut(port).fill(2);
@@ -91,9 +93,9 @@ impl Both {
     }
 
     fn assert_same_pages(&self, step: u64) {
-        let mut bytes = [0; RING_BYTES];
+        let mut bytes = [0; PAGE_BYTES];
         self.page.read(0, &mut bytes);
-        let same = bytes == *self.lent_backend.page(self.port);
+        let same = bytes == self.lent_backend.ring(self.port)[..PAGE_BYTES];
         assert!(same, "the pages differ after step {step}");
     }
 
@@ -201,7 +203,7 @@ impl Outstanding {
     fn write_something(&self, both: &mut Both, random: &mut Random) {
         match random.below(10) {
             0 => {
-                let at = 4 * random.index(RING_BYTES / 4);
+                let at = 4 * random.index(PAGE_BYTES / 4);
                 both.write(at, &(random.word() as u32).to_le_bytes());
             }
             1 => {
@@ -224,7 +226,7 @@ impl Outstanding {
         random.fill(&mut response);
         response[..8].copy_from_slice(&id.to_le_bytes());
         response[8] = operation;
-        let at = Abi::Bits64.slot_at(self.collected);
+        let at = Abi::Bits64.slot_at(Pages::One, self.collected);
         both.write(at, &response);
         both.write(RSP_PROD, &(self.collected + 1).to_le_bytes());
     }

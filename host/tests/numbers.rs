@@ -278,18 +278,28 @@ fn the_longest_numbers() {
 
 #[test]
 fn sector_size_and_ring_page_order_are_numbers_alike() {
-    for (node, allowed) in [(6, 512), (9, 0)] {
-        check_refusal(node, allowed.to_string(), 0);
-        check_refusal(node, format!("0{allowed}"), 13);
+    for (node, allowed) in [(6, &[512][..]), (9, &[0, 1])] {
         for text in runs() {
-            check_refusal(node, &text, 14);
+            let is_allowed = allowed.iter().any(|it| it.to_string().as_bytes() == text);
+            check_refusal(node, &text, if is_allowed { 0 } else { 14 });
             check_every_place(node, text, &NEAR_DIGITS);
         }
-        for text in small_if_wrapped(allowed) {
-            check_refusal(node, text, 14);
+        for &allowed in allowed {
+            check_refusal(node, allowed.to_string(), 0);
+            check_refusal(node, format!("0{allowed}"), 13);
+            for text in small_if_wrapped(allowed) {
+                check_refusal(node, text, 14);
+            }
+            for bits in 10..64 {
+                check_refusal(node, ((1 << bits) + allowed).to_string(), 14);
+            }
         }
-        for bits in 10..64 {
-            check_refusal(node, ((1 << bits) + allowed).to_string(), 14);
-        }
+    }
+}
+
+#[test]
+fn every_small_ring_page_order() {
+    for order in 2..=1100 {
+        check_refusal(9, order.to_string(), 14);
     }
 }

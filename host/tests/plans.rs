@@ -5,7 +5,7 @@ use generate::turn_words;
 use kernelharp::layout::Abi;
 use kernelharp::words::{extent, kind, turn, TURN_WORDS};
 use second::{Extent, Operation, Plan, Status, Turned};
-use tests::{full_sheet, sheet, usual_sheet_of, with_protocol, Ask, Bench};
+use tests::{full_sheet, sheet, usual_sheet_of, with_ring, Ask, Bench};
 
 /// The plan of a start on port 0, which leaves the pages.
 fn started(abi: Abi, ask: &Ask) -> Plan {
@@ -57,7 +57,7 @@ fn plans_without_extents() {
     let (far, many) = (0x0102_0304_0506_0708, 0x1112_1314_1516_1718);
     let large = full_sheet("w", "512", &u64::MAX.to_string());
     for abi in Abi::ALL {
-        let mut bench = Bench::open(&with_protocol(&large, abi));
+        let mut bench = Bench::open(&with_ring(&large, abi));
         let mut plan = |ask: &Ask| {
             let plan = bench.serve(ask).unwrap();
             assert!(plan.extents.is_empty());
@@ -80,7 +80,7 @@ fn secure_mark() {
     };
     for (text, has_it) in [("0", false), ("1", true)] {
         for abi in Abi::ALL {
-            let mut bench = Bench::open(&with_protocol(&disk(text), abi));
+            let mut bench = Bench::open(&with_ring(&disk(text), abi));
             let mut mark = |ask: Ask| {
                 let plan = bench.serve(&ask).unwrap();
                 bench.complete(plan.port, plan.tag, plan.serial, 0).unwrap();

@@ -3,7 +3,7 @@
 
 use kernelharp::layout::Abi;
 use second::Status;
-use tests::{full_sheet, sheet, usual_sheet, usual_sheet_of, with_protocol, Ask, Bench};
+use tests::{full_sheet, sheet, usual_sheet, usual_sheet_of, with_ring, Ask, Bench};
 
 /// The sector sizes, and how many sectors of 512 bytes each is.
 const SIZES: [(&str, u8); 4] = [("512", 1), ("1024", 2), ("2048", 4), ("4096", 8)];
@@ -21,7 +21,7 @@ fn usual(ask: &Ask) -> u32 {
 }
 
 fn on(sheet: &[u8], ask: &Ask) -> u32 {
-    either(|abi| Bench::open(&with_protocol(sheet, abi)).number(ask))
+    either(|abi| Bench::open(&with_ring(sheet, abi)).number(ask))
 }
 
 #[test]
@@ -57,7 +57,7 @@ fn reason_22() {
 /// What becomes of a discard with each flag: the secure mark of its plan, or the reason.
 fn discards(disk: &[u8], start: u64, count: u64) -> Vec<Result<bool, u32>> {
     let [ends, others] = Abi::ALL.map(|abi| {
-        let mut bench = Bench::open(&with_protocol(disk, abi));
+        let mut bench = Bench::open(&with_ring(disk, abi));
         let end = |flag| {
             let plan = bench.serve(&Ask::discard(flag, start, count));
             let plan = plan.map_err(|reason| reason as u32)?;
@@ -260,7 +260,7 @@ fn reason_29() {
 /// starts. What starts is completed.
 fn all_on(size: &str, asks: impl IntoIterator<Item = (Ask, u32)>) {
     let sheet = full_sheet("w", size, "2008");
-    let mut benches = Abi::ALL.map(|abi| Bench::open(&with_protocol(&sheet, abi)));
+    let mut benches = Abi::ALL.map(|abi| Bench::open(&with_ring(&sheet, abi)));
     for (ask, due) in asks {
         for bench in &mut benches {
             let came = match bench.serve(&ask) {

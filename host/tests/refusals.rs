@@ -1,7 +1,7 @@
 //! Refusals 1 to 6, each on both sides of its line and before those that come later (rules 7.1 to 7.6).
 
-use kernelharp::layout::Abi;
-use kernelharp::layout::{GRANTS_BYTES, RINGS_BYTES};
+use generate::Ring;
+use kernelharp::layout::{GRANTS_BYTES, PAGE_BYTES, PORTS, RINGS_BYTES};
 use second::Turned;
 use tests::{usual_sheet, usual_sheet_of, Ask, Bench};
 
@@ -12,6 +12,8 @@ fn refusal_01() {
         (RINGS_BYTES + 1, GRANTS_BYTES),
         (RINGS_BYTES, GRANTS_BYTES - 1),
         (RINGS_BYTES, GRANTS_BYTES + 1),
+        // A page to each port, as long as no ring had more.
+        (PORTS * PAGE_BYTES, GRANTS_BYTES),
         (0, 0),
     ] {
         let mut bench = Bench::open(&usual_sheet());
@@ -29,7 +31,9 @@ fn refusal_01() {
     assert_eq!(bench.refused_complete(8, 0, 0), 1);
     assert_eq!(bench.refused_complete(1, 0, 0), 1);
     assert_eq!(bench.refused_complete(0, 1, 0), 1);
-    bench.rings.pop();
+    bench.rings.truncate(PORTS * PAGE_BYTES);
+    assert_eq!(bench.refused_complete(0, 0, 0), 1);
+    bench.rings.resize(RINGS_BYTES, 0);
     assert!(bench.complete(0, 0, 0, 8).is_ok());
 }
 
@@ -86,6 +90,8 @@ fn refusal_06() {
     assert_eq!(bench.number(&Ask::usual_read()), 0);
     for (tag, serial) in [
         (32, 0),
+        (63, 0),
+        (64, 0),
         (u32::MAX, 0),
         (1, 0),
         (31, 0),
@@ -103,13 +109,34 @@ fn refusal_06() {
     assert!(bench.complete(0, 0, 1, 8).is_ok());
 }
 
+/// With every tag busy that a ring has: those, and no others.
+#[test]
+fn refusal_06_by_the_rings_size() {
+    for ring in Ring::ALL {
+        let mut bench = Bench::open(&usual_sheet_of(ring));
+        let slots = ring.slots();
+        for _ in 0..slots {
+            bench.serve(&Ask::usual_read()).unwrap();
+        }
+        for tag in slots..=130 {
+            for serial in [0, tag, tag - 32, tag % slots] {
+                assert_eq!(bench.refused_complete(0, tag, serial), 6);
+            }
+        }
+        for tag in 0..slots {
+            assert!(bench.complete(0, tag, tag, 8).is_ok());
+            assert_eq!(bench.refused_complete(0, tag, tag), 6);
+        }
+    }
+}
+
 #[test]
 fn stale_completion_after_reopening() {
-    for (abi, again) in Abi::ALL
-        .map(|abi| Abi::ALL.map(|again| (abi, again)))
+    for (ring, again) in Ring::ALL
+        .map(|ring| Ring::ALL.map(|again| (ring, again)))
         .concat()
     {
-        let mut bench = Bench::open(&usual_sheet_of(abi));
+        let mut bench = Bench::open(&usual_sheet_of(ring));
         bench.serve(&Ask::usual_read()).unwrap();
         bench.complete(0, 0, 0, 8).unwrap();
         bench.backend.close(0).unwrap();

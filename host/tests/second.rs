@@ -1,11 +1,12 @@
 //! Long random runs: the second program alone with the checker of demand 3 and the census, and the
 //! comparison of two programs.
 
-use generate::{run, Core, Generator, Step, World};
-use kernelharp::layout::{page, page_mut, read_u32, write_u32, Abi, PORTS, RSP_PROD};
+use generate::{run, Core, Generator, Ring, Step, World};
+use kernelharp::layout::{read_u32, ring, ring_mut, write_u32, Abi, PORTS, RSP_PROD};
 use kernelharp::words::{done, kind, turn, DoneWords, TurnWords};
 use kernelharp::{Completion, Meter};
 use second::{Backend, Refusal};
+use tests::Twin;
 
 const SEED: u64 = 0x6B65_726E_656C;
 
@@ -37,6 +38,16 @@ fn two_second_programs_agree() {
     let (mut one, mut other) = (Backend::new(), Backend::new());
     run(&mut [&mut one, &mut other], SEED, 5_000).unwrap_or_else(|at| panic!("{at}"));
     assert_eq!(one, other);
+}
+
+/// What is behind a ring of one page, and in the share of a closed port, has no influence.
+#[test]
+fn a_second_program_and_its_twin_agree() {
+    for seed in 1..=20 {
+        let (mut one, mut twin) = (Backend::new(), Twin::new(Backend::new()));
+        run(&mut [&mut one, &mut twin], seed, 1_000).unwrap_or_else(|at| panic!("{at}"));
+        assert_eq!(one, twin.core, "seed {seed}");
+    }
 }
 
 /// The steps that a seed gives, led by a program of their own.
@@ -131,8 +142,8 @@ struct Flawed {
     backend: Backend,
     flaw: Flaw,
     words: [u64; 1],
-    /// The layout that each port was opened with.
-    abis: [Option<Abi>; PORTS],
+    /// The ring that each port was opened with.
+    rings: [Option<Ring>; PORTS],
 }
 
 impl Flawed {
@@ -141,7 +152,7 @@ impl Flawed {
             backend: Backend::new(),
             flaw,
             words: [0],
-            abis: [None; PORTS],
+            rings: [None; PORTS],
         }
     }
 
@@ -149,22 +160,22 @@ impl Flawed {
     fn other_layout(&self, port: u32) -> Option<Abi> {
         match self.flaw {
             Flaw::Layout => Some(Abi::Bits64),
-            Flaw::LayoutKept => self.abis.get(port as usize).copied().flatten(),
+            Flaw::LayoutKept => self.rings.get(port as usize)?.map(|ring| ring.abi),
             _ => None,
         }
     }
 
     /// The four bytes behind the status of the response given last, as the flaw has them.
     fn spoil_padding(&self, lent: &[u8], rings: &mut [u8], port: usize) {
-        let abi = self.abis[port].unwrap_or_default();
-        let index = read_u32(page(rings, port), RSP_PROD).wrapping_sub(1);
-        let at = abi.slot_at(index) + 12;
-        let bytes = match (self.flaw, abi) {
-            (Flaw::Padding, Abi::Bits64) => read_u32(page(lent, port), at),
+        let kind = self.rings[port].unwrap_or_default();
+        let index = read_u32(ring(rings, port), RSP_PROD).wrapping_sub(1);
+        let at = kind.slot_at(index) + 12;
+        let bytes = match (self.flaw, kind.abi) {
+            (Flaw::Padding, Abi::Bits64) => read_u32(ring(lent, port), at),
             (Flaw::NoPadding, Abi::Bits32) => 0,
             _ => return,
         };
-        write_u32(page_mut(rings, port), at, bytes);
+        write_u32(ring_mut(rings, port), at, bytes);
     }
 
     /// What the flaw makes of the words that both kinds of answers have.
@@ -214,7 +225,7 @@ impl Core for Flawed {
         };
         let code = Core::open(&mut self.backend, port, &sheet);
         if code == 0 {
-            self.abis[port as usize] = Some(Abi::of_sheet(&sheet));
+            self.rings[port as usize] = Some(Ring::of_sheet(&sheet));
         }
         match self.flaw {
             Flaw::Sheet if code == Refusal::SheetShape as u32 => Refusal::SheetText as u32,
@@ -238,6 +249,10 @@ impl Core for Flawed {
         &self.words
     }
 
+    fn skip(&mut self, port: usize, requests: u32) {
+        self.backend.skip(port, requests);
+    }
+
     fn turn(&mut self, rings: &mut [u8], grants: &[u8], answer: &mut TurnWords) -> u32 {
         let lent = rings.to_vec();
         let code = Core::turn(&mut self.backend, rings, grants, answer);
@@ -253,15 +268,15 @@ impl Core for Flawed {
                 self.spoil_padding(&lent, rings, port);
             }
             (kind::ANSWERED, Flaw::RspProd) => {
-                let next = read_u32(page(&lent, port), RSP_PROD).wrapping_add(1);
-                write_u32(page_mut(rings, port), RSP_PROD, next);
+                let next = read_u32(ring(&lent, port), RSP_PROD).wrapping_add(1);
+                write_u32(ring_mut(rings, port), RSP_PROD, next);
             }
             (kind::STARTED, Flaw::Count) if answer[turn::EXTENT_COUNT] == 11 => {
                 answer[turn::COUNT] += 1;
             }
             (kind::STARTED, Flaw::Secure) if answer[turn::OPERATION] == 5 => {
-                let abi = self.abis[port].unwrap_or_default();
-                let flag = page(&lent, port)[abi.slot_at(answer[turn::SERIAL] as u32) + 1];
+                let kind = self.rings[port].unwrap_or_default();
+                let flag = ring(&lent, port)[kind.slot_at(answer[turn::SERIAL] as u32) + 1];
                 answer[turn::SECURE] = u64::from(flag % 2);
             }
             _ => {}

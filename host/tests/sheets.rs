@@ -1,7 +1,7 @@
 //! Node sheets: what a sound one says, and refusals 11 to 15 on both sides of their lines (rules 7.11 to
 //! 7.15).
 
-use second::{read_sheet, Disk, Layout};
+use second::{read_sheet, Disk, Layout, Refusal};
 use tests::{sheet, sheet_number, usual_sheet, with_node};
 
 fn node_number(node: u8, text: &str) -> u32 {
@@ -25,6 +25,7 @@ fn sheet_of_21_bytes() {
         sector_size: 512,
         sectors: 2008,
         layout: Layout::BITS_64,
+        slots: 32,
     };
     assert_eq!(read_sheet(&SHEET_OF_21), Ok(disk));
     assert_eq!(sheet(&[(1, "w"), (6, "512"), (7, "2008")]), SHEET_OF_21);
@@ -61,8 +62,30 @@ fn protocol_says_the_layout() {
     for text in ["x86_64-abi", "x86_32-abi"] {
         let unsized_disk = [(1, "w"), (6, "512"), (8, text)];
         assert_eq!(sheet_number(&sheet(&unsized_disk)), 15);
-        let two_pages = [(1, "w"), (6, "512"), (7, "2008"), (8, text), (9, "1")];
-        assert_eq!(sheet_number(&sheet(&two_pages)), 14);
+        let four_pages = [(1, "w"), (6, "512"), (7, "2008"), (8, text), (9, "2")];
+        assert_eq!(sheet_number(&sheet(&four_pages)), 14);
+    }
+}
+
+#[test]
+fn ring_page_order_says_the_slots() {
+    let slots = |sheet: &[u8]| read_sheet(sheet).map(|disk| disk.slots);
+    assert_eq!(slots(&usual_sheet()), Ok(32));
+    assert_eq!(slots(&with_node(9, "0")), Ok(32));
+    assert_eq!(slots(&with_node(9, "1")), Ok(64));
+    assert_eq!(slots(&with_node(9, "2")), Err(Refusal::SheetNumber));
+    // In either layout, and whatever the features say.
+    for (protocol, layout) in [
+        ("x86_64-abi", Layout::BITS_64),
+        ("x86_32-abi", Layout::BITS_32),
+    ] {
+        for (feature, order, due) in [("0", "1", 64), ("1", "0", 32)] {
+            let mut entries = vec![(1, "w"), (2, feature), (5, feature)];
+            entries.extend([(6, "512"), (7, "1"), (8, protocol), (9, order)]);
+            let disk = read_sheet(&sheet(&entries)).unwrap();
+            assert_eq!((disk.layout, disk.slots), (layout, due));
+            assert_eq!(sheet_number(&sheet(&entries)), 0);
+        }
     }
 }
 
@@ -75,8 +98,10 @@ fn sheet_faults_in_order() {
     assert_eq!(sheet_number(&wrong), 11);
     assert_eq!(sheet_number(&sheet(&[(6, "1"), (7, "x")])), 14);
     assert_eq!(sheet_number(&sheet(&[(6, "x"), (7, "1")])), 13);
-    assert_eq!(sheet_number(&sheet(&[(6, "512"), (9, "1")])), 14);
-    assert_eq!(sheet_number(&sheet(&[(6, "512"), (9, "0")])), 15);
+    assert_eq!(sheet_number(&sheet(&[(6, "512"), (9, "2")])), 14);
+    for text in ["0", "1"] {
+        assert_eq!(sheet_number(&sheet(&[(6, "512"), (9, text)])), 15);
+    }
 }
 
 #[test]
@@ -172,10 +197,19 @@ fn refusal_14() {
     for text in ["0", "9", "18446744073709551615"] {
         assert_eq!(node_number(7, text), 0);
     }
-    for text in ["1", "10", "18446744073709551616", &long] {
+    for text in [
+        "2",
+        "3",
+        "10",
+        "11",
+        "4294967297",
+        "18446744073709551617",
+        &long,
+    ] {
         assert_eq!(node_number(9, text), 14, "{text:.30}");
     }
     assert_eq!(node_number(9, "0"), 0);
+    assert_eq!(node_number(9, "1"), 0);
 }
 
 #[test]

@@ -1,12 +1,14 @@
 //! The vectors of tests/vectors, each line of them, run through the second program and the archive:
 //! the worked cases of section 9, node sheets, requests, also by their segments, and records byte by
-//! byte. What is due in either layout is run in both.
+//! byte. What is due in either layout is run in both, and what is due in a ring of either size in both
+//! sizes.
 
-use kernelharp::layout::{read_u64, Abi, HEADER_BYTES, PORT_GRANTS};
+use generate::Ring;
+use kernelharp::layout::{read_u64, Abi, Pages, HEADER_BYTES, PORT_GRANTS};
 use second::{
     backlog, read_sheet, response_bytes, Backlog, Disk, Layout, Plan, Reason, Status, Turned,
 };
-use tests::{bytes, full_sheet, sheet, usual_sheet_of, with_protocol, Ask, Bench};
+use tests::{bytes, full_sheet, sheet, usual_sheet_of, with_ring, Ask, Bench};
 
 const WORKED: &str = include_str!("../../tests/vectors/worked.txt");
 const SHEETS: &str = include_str!("../../tests/vectors/sheets.txt");
@@ -60,10 +62,23 @@ fn layout(bits: &str) -> Abi {
     }
 }
 
+/// The pages of a ring by their number.
+fn pages(number: &str) -> Pages {
+    match number {
+        "1" => Pages::One,
+        "2" => Pages::Two,
+        _ => panic!("{number} is no number of pages"),
+    }
+}
+
+/// The kinds of worked cases.
+const KINDS: [&str; 7] = [
+    "sheet", "request", "discard", "index", "place", "result", "response",
+];
+
 #[test]
 fn every_line_is_a_case() {
-    let kinds = ["sheet", "request", "discard", "index", "result", "response"];
-    let run: usize = kinds.iter().map(|kind| cases(kind).len()).sum();
+    let run: usize = KINDS.iter().map(|kind| cases(kind).len()).sum();
     assert_eq!(run, lines(WORKED).len());
 }
 
@@ -101,10 +116,10 @@ fn requests() {
             number(first),
             number(last),
         );
-        for abi in Abi::ALL {
-            let mut bench = Bench::open(&with_protocol(&full_sheet(mode, size, sectors), abi));
+        for ring in Ring::ALL {
+            let mut bench = Bench::open(&with_ring(&full_sheet(mode, size, sectors), ring));
             bench.grant(0, 5, number(grant));
-            assert_eq!(came_of(&bench.serve(&ask)), due, "{given:?}, {abi:?}");
+            assert_eq!(came_of(&bench.serve(&ask)), due, "{given:?}, {ring}");
         }
     }
 }
@@ -118,9 +133,9 @@ fn discards() {
         let nodes = [mode, "1", "1", "1", secure, size, sectors];
         let disk = sheet(&(1..).zip(nodes).collect::<Vec<_>>());
         let ask = Ask::discard(number(flag), number(start), number(count));
-        for abi in Abi::ALL {
-            let mut bench = Bench::open(&with_protocol(&disk, abi));
-            assert_eq!(came_of(&bench.serve(&ask)), due, "{given:?}, {abi:?}");
+        for ring in Ring::ALL {
+            let mut bench = Bench::open(&with_ring(&disk, ring));
+            assert_eq!(came_of(&bench.serve(&ask)), due, "{given:?}, {ring}");
         }
     }
 }
@@ -128,51 +143,68 @@ fn discards() {
 #[test]
 fn indices() {
     for (given, due) in cases("index") {
-        let &[taken, answered, req_prod] = &given[..] else {
-            panic!("three words: {given:?}")
+        let &[count, taken, answered, req_prod] = &given[..] else {
+            panic!("four words: {given:?}")
         };
         let (taken, answered, req_prod): (u32, u32, u32) =
             (number(taken), number(answered), number(req_prod));
-        let in_flight = taken.wrapping_sub(answered);
+        let (pages, in_flight) = (pages(count), taken.wrapping_sub(answered));
         for abi in Abi::ALL {
-            let slot = (abi.slot_at(taken) - HEADER_BYTES) / abi.slot_bytes();
-            let came = match backlog(req_prod, taken, in_flight) {
+            let ring = Ring::new(abi, pages);
+            let slot = (ring.slot_at(taken) - HEADER_BYTES) / abi.slot_bytes();
+            let came = match backlog(pages.slots(), req_prod, taken, in_flight) {
                 Backlog::Nothing => "nothing".to_string(),
                 Backlog::Waits => format!("waits {slot}"),
                 Backlog::Overrun => "overrun".to_string(),
             };
-            assert_eq!(came, due, "{given:?}, {abi:?}");
-            // The wrap is too far for calls; the second program has tests of its own for it, and
-            // memory.rs those of the archive.
-            if taken < 1000 {
-                let came = index_by_calls(abi, taken, answered, req_prod);
-                assert_eq!(came, due, "{given:?}, {abi:?}");
-            }
+            assert_eq!(came, due, "{given:?}, {abi}");
+            let came = index_by_calls(ring, taken, answered, req_prod);
+            assert_eq!(came, due, "{given:?}, {abi}");
         }
     }
 }
 
-/// Brings a backend to C and R by calls, and sees from which slot it takes.
-fn index_by_calls(abi: Abi, taken: u32, answered: u32, req_prod: u32) -> String {
-    let mut bench = Bench::open(&usual_sheet_of(abi));
-    for index in 0..taken {
-        let due = if index < answered { 25 } else { 0 };
-        let ask = if index < answered {
-            Ask::of(0, 0, 0, 0, 0)
-        } else {
-            Ask::usual_read()
-        };
-        assert_eq!(bench.number(&ask), due);
+/// Brings a backend to C and R, by calls from R on, and sees from which slot it takes.
+fn index_by_calls(ring: Ring, taken: u32, answered: u32, req_prod: u32) -> String {
+    let mut bench = Bench::open_at(&usual_sheet_of(ring), answered);
+    for _ in 0..taken.wrapping_sub(answered) {
+        bench.serve(&Ask::usual_read()).expect("a start");
     }
     // Each slot's read starts at the sector of the slot's own number.
-    for slot in 0..32u32 {
+    for slot in 0..ring.slots() {
         bench.put(0, slot, &Ask::of(0, 1, u64::from(slot), 0, 0));
     }
     bench.set_req_prod(0, req_prod);
     match bench.turn() {
+        Turned::Idle => "nothing".to_string(),
         Turned::Started(plan) => format!("waits {}", plan.start),
         Turned::Overrun { port: 0 } => "overrun".to_string(),
         other => panic!("{other:?}"),
+    }
+}
+
+#[test]
+fn places() {
+    for (given, due) in cases("place") {
+        let &[bits, count, index] = &given[..] else {
+            panic!("three words: {given:?}")
+        };
+        let (ring, index) = (Ring::new(layout(bits), pages(count)), number(index));
+        assert_eq!(ring.slot_at(index).to_string(), due, "{given:?}");
+        // The same by a call: the one request that is no unknown operation is taken from there.
+        let mut bench = Bench::open_at(&usual_sheet_of(ring), index);
+        bench.rings.fill(9);
+        let at: usize = number(due);
+        let ask = Ask::usual_read().bytes(ring.abi);
+        bench.rings[at..][..ask.len()].copy_from_slice(&ask);
+        bench.set_req_prod(0, index.wrapping_add(1));
+        let plan = bench.serve_next().expect("a start");
+        assert_eq!((plan.serial, plan.start), (index, 2000), "{given:?}");
+        bench.complete(0, 0, index, 8).expect("a busy tag");
+        assert_eq!(
+            bench.rings[at..][..8],
+            0x1122_3344_5566_7788_u64.to_le_bytes()
+        );
     }
 }
 
@@ -183,8 +215,8 @@ fn results() {
             panic!("two words: {given:?}")
         };
         let expected: u8 = number(expected);
-        for abi in Abi::ALL {
-            let mut bench = Bench::open(&usual_sheet_of(abi));
+        for ring in Ring::ALL {
+            let mut bench = Bench::open(&usual_sheet_of(ring));
             let plan = bench
                 .serve(&Ask::of(0, 1, 0, 0, expected - 1))
                 .expect("a start");
@@ -207,14 +239,16 @@ fn responses() {
         assert_eq!(response[..abi.response_bytes()], due);
         // The same by a call: a read of no segments is answered with -1.
         assert_eq!((operation, code), ("0", "-1"));
-        let mut bench = Bench::open(&usual_sheet_of(abi));
         let mut ask = Ask::of(0, 0, 0, 0, 0);
         ask.id = id;
-        assert_eq!(bench.number(&ask), 25);
-        let (response, rest) = bench.slot(0, 0).split_at(due.len());
-        assert_eq!(response, due);
-        // The rest of the slot stays (rule 2.11).
-        assert_eq!(rest, &ask.bytes(abi)[due.len()..]);
+        for pages in Pages::ALL {
+            let mut bench = Bench::open(&usual_sheet_of(Ring::new(abi, pages)));
+            assert_eq!(bench.number(&ask), 25);
+            let (response, rest) = bench.slot(0, 0).split_at(due.len());
+            assert_eq!(response, due);
+            // The rest of the slot stays (rule 2.11).
+            assert_eq!(rest, &ask.bytes(abi)[due.len()..]);
+        }
     }
 }
 
@@ -227,6 +261,7 @@ fn disk_words(disk: &Disk) -> String {
         (disk.discard, "discard "),
         (disk.secure, "secure "),
         (disk.layout == Layout::BITS_32, "32-bit "),
+        (disk.slots == 64, "two-page "),
     ];
     let on: String = words.map(|(on, word)| if on { word } else { "" }).concat();
     format!("{on}sector {} sectors {}", disk.sector_size, disk.sectors)
@@ -353,8 +388,8 @@ fn segments_of(line: &str) -> Given {
 }
 
 /// What comes of it as the first request of a port, with the id read off the response.
-fn serve(given: &Given, abi: Abi) -> String {
-    let mut bench = Bench::open(&with_protocol(&given.sheet, abi));
+fn serve(given: &Given, ring: Ring) -> String {
+    let mut bench = Bench::open(&with_ring(&given.sheet, ring));
     bench.grants.fill(0);
     for place in &given.places {
         let frame = place.segment.0 as usize;
@@ -368,13 +403,13 @@ fn serve(given: &Given, abi: Abi) -> String {
     format!("{id} {}", judgement(&served))
 }
 
-/// Serves each line of a file in both layouts; the id of its request is its place in the file.
+/// Serves each line of a file in every ring; the id of its request is its place in the file.
 fn serve_lines(file: &'static str, read: fn(&str) -> Given) {
     for (place, (line, due)) in (1..).zip(lines(file)) {
         let mut given = read(line);
         given.ask.id = place;
-        for abi in Abi::ALL {
-            assert_eq!(serve(&given, abi), due, "{line}, {abi:?}");
+        for ring in Ring::ALL {
+            assert_eq!(serve(&given, ring), due, "{line}, {ring}");
         }
     }
 }
@@ -398,13 +433,15 @@ fn record_vectors() {
         let (words, response) = due.split_once(" : ").expect("words and a response");
         let response = bytes(response);
         let largest = full_sheet("w", "512", &u64::MAX.to_string());
-        let mut bench = Bench::open(&with_protocol(&largest, abi));
-        bench.rings[abi.slot_at(0)..][..slot.len()].copy_from_slice(&slot);
-        bench.set_req_prod(0, 1);
-        let served = bench.serve_next();
-        finish(&mut bench, &served);
-        assert_eq!(judgement(&served), words, "{given}");
-        let left = [&response[..], &slot[response.len()..]].concat();
-        assert_eq!(bench.slot(0, 0), left, "{given}");
+        for ring in Pages::ALL.map(|pages| Ring::new(abi, pages)) {
+            let mut bench = Bench::open(&with_ring(&largest, ring));
+            bench.rings[ring.slot_at(0)..][..slot.len()].copy_from_slice(&slot);
+            bench.set_req_prod(0, 1);
+            let served = bench.serve_next();
+            finish(&mut bench, &served);
+            assert_eq!(judgement(&served), words, "{given}");
+            let left = [&response[..], &slot[response.len()..]].concat();
+            assert_eq!(bench.slot(0, 0), left, "{given}");
+        }
     }
 }

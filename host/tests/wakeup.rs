@@ -1,13 +1,13 @@
 //! The lost wake-up: why docs/HOST.md asks for a second look before sleeping and after each
-//! response. A guest thread and a host thread share a live page.
+//! response. A guest thread and a host thread share a live ring.
 //!
 //! First in lockstep, in every order that their steps can have: without the rules some orders leave
 //! one side asleep for ever, with them none does. Then running freely, with the rules.
 
-use frontend::{EventChannel, Frontend, GuestPage, Request};
-use generate::Random;
-use kernelharp::live::{LiveBackend, SharedPage};
-use kernelharp::{Abi, Backend, Plan, Port, Segment, Turn};
+use frontend::{EventChannel, Frontend, GuestRing, Request};
+use generate::{Random, Ring};
+use kernelharp::live::{LiveBackend, SharedRing};
+use kernelharp::{Backend, Plan, Port, Segment, Turn};
 use std::sync::atomic::{fence, Ordering};
 use std::thread;
 use std::time::{Duration, Instant};
@@ -31,30 +31,34 @@ fn read(id: u64) -> Request {
 struct Pair {
     frontend: Frontend,
     backend: Backend,
-    page: SharedPage,
+    ring: SharedRing,
     port: Port,
 }
 
 impl Pair {
     /// Both sides after one request and its response: req_event and rsp_event are behind.
     fn warm() -> Pair {
-        let (page, port, abi) = (GuestPage::new(), Port::try_from(0).unwrap(), Abi::default());
+        let (memory, port, kind) = (
+            GuestRing::new(),
+            Port::try_from(0).unwrap(),
+            Ring::default(),
+        );
         let mut pair = Pair {
-            frontend: Frontend::new(page, abi),
+            frontend: Frontend::new(memory, kind.abi, kind.pages),
             backend: Backend::new().unwrap(),
-            page: page.shared(abi),
+            ring: memory.shared(kind.abi, kind.pages),
             port,
         };
-        pair.backend.open(port, &usual_sheet_of(abi)).unwrap();
+        pair.backend.open(port, &usual_sheet_of(kind)).unwrap();
         pair.backend.grants_mut(port)[0] = 2;
         let plan = pair.start(1);
-        pair.page
-            .copy_rsp_event_in(pair.backend.page_mut(pair.port));
+        pair.ring
+            .copy_rsp_event_in(pair.backend.ring_mut(pair.port));
         let done = pair.backend.complete(plan.name, 1);
         let said = done.unwrap().notify;
         assert!(pair
-            .page
-            .copy_response_out(pair.backend.page(pair.port), said));
+            .ring
+            .copy_response_out(pair.backend.ring(pair.port), said));
         assert_eq!(pair.frontend.response().map(|it| it.id), Some(1));
         pair
     }
@@ -63,11 +67,11 @@ impl Pair {
     fn start(&mut self, id: u64) -> Plan {
         self.frontend.put(&read(id));
         let _ = self.frontend.publish();
-        self.page.copy_in(self.backend.page_mut(self.port));
+        self.ring.copy_in(self.backend.ring_mut(self.port));
         let Turn::Started(plan) = self.backend.turn() else {
             panic!("a sound request starts");
         };
-        self.page.took_request();
+        self.ring.took_request();
         plan
     }
 }
@@ -82,7 +86,7 @@ fn request_is_lost(order: &[Side], looks: usize) -> bool {
     let Pair {
         mut frontend,
         mut backend,
-        mut page,
+        mut ring,
         port,
     } = Pair::warm();
     let to_host = EventChannel::new();
@@ -95,10 +99,10 @@ fn request_is_lost(order: &[Side], looks: usize) -> bool {
     };
     let host = |step| match step % LOOK_STEPS {
         _ if served => {}
-        0 => page.copy_in(backend.page_mut(port)),
+        0 => ring.copy_in(backend.ring_mut(port)),
         1 => served = backend.turn() != Turn::Idle,
         _ => {
-            page.copy_req_event_out(backend.page(port));
+            ring.copy_req_event_out(backend.ring(port));
             fence(Ordering::SeqCst);
         }
     };
@@ -114,7 +118,7 @@ fn response_is_lost(order: &[Side], word: Word) -> bool {
     let Pair {
         frontend,
         mut backend,
-        mut page,
+        mut ring,
         port,
     } = pair;
     let to_guest = EventChannel::new();
@@ -125,10 +129,10 @@ fn response_is_lost(order: &[Side], word: Word) -> bool {
         _ => awake = frontend.has_response(),
     };
     let host = |step| match step {
-        0 => page.copy_rsp_event_in(backend.page_mut(port)),
+        0 => ring.copy_rsp_event_in(backend.ring_mut(port)),
         1 => said = complete(&mut backend, &plan),
         _ => {
-            let seen = page.copy_response_out(backend.page(port), said);
+            let seen = ring.copy_response_out(backend.ring(port), said);
             if said || (seen && word == Word::OfTheSecondLook) {
                 to_guest.notify();
             }
@@ -235,25 +239,26 @@ impl Asker<'_> {
 
 #[test]
 fn nobody_sleeps_over_anything_in_a_free_run() {
-    for abi in Abi::ALL {
-        let sent = free_run(abi);
-        println!("{abi}: {sent} requests, each with its response");
+    for ring in [Ring::ALL[0], Ring::ALL[3]] {
+        let sent = free_run(ring);
+        println!("{ring}: {sent} requests, each with its response");
     }
 }
 
 /// Gives how many requests were sent.
-fn free_run(abi: Abi) -> u64 {
-    let (page, port) = (GuestPage::new(), Port::try_from(0).unwrap());
+fn free_run(ring: Ring) -> u64 {
+    let (memory, port) = (GuestRing::new(), Port::try_from(0).unwrap());
+    let Ring { abi, pages } = ring;
     let mut backend = LiveBackend::new().unwrap();
     backend
-        .open(port, &usual_sheet_of(abi), page.shared(abi))
+        .open(port, &usual_sheet_of(ring), memory.shared(abi, pages))
         .unwrap();
     backend.grants_mut(port)[0] = 2;
     let bells = Bells::default();
     thread::scope(|scope| {
         scope.spawn(|| bells.serve(backend));
         let asker = Asker {
-            frontend: Frontend::new(page, abi),
+            frontend: Frontend::new(memory, abi, pages),
             bells: &bells,
             random: Random::new(8),
             sent: 0,

@@ -4,10 +4,10 @@
 //!
 //! First in lockstep, in every order that the steps can have, then running freely.
 
-use frontend::{EventChannel, GuestPage};
+use frontend::{EventChannel, GuestRing};
 use generate::Random;
-use kernelharp::layout::RING_BYTES;
-use kernelharp::live::{LiveBackend, LiveGuest, OwnPage, SharedPage};
+use kernelharp::layout::{Pages, PAGE_BYTES};
+use kernelharp::live::{LiveBackend, LiveGuest, OwnPage, SharedRing};
 use kernelharp::{Abi, Backend, Guest, Plan, Port, Request, Segment, Turn};
 use std::sync::atomic::{fence, Ordering};
 use std::thread;
@@ -40,23 +40,23 @@ fn read(id: u64, segment: &Segment) -> Request<'_> {
 struct Parts {
     guest: Guest,
     own: OwnPage,
-    private: Box<[u8; RING_BYTES]>,
+    private: Box<[u8; PAGE_BYTES]>,
 }
 
 /// The host likewise.
 struct HostParts {
     backend: Backend,
-    page: SharedPage,
+    ring: SharedRing,
     port: Port,
 }
 
 impl HostParts {
     fn start(&mut self) -> Plan {
-        self.page.copy_in(self.backend.page_mut(self.port));
+        self.ring.copy_in(self.backend.ring_mut(self.port));
         let Turn::Started(plan) = self.backend.turn() else {
             panic!("a sound request starts");
         };
-        self.page.took_request();
+        self.ring.took_request();
         plan
     }
 
@@ -88,15 +88,15 @@ impl Parts {
 
 /// Both sides after one request and its response: req_event and rsp_event are behind.
 fn warm() -> (Parts, HostParts) {
-    let (page, port, abi) = (GuestPage::new(), Port::try_from(0).unwrap(), Abi::Bits64);
+    let (page, port, abi) = (GuestRing::new(), Port::try_from(0).unwrap(), Abi::Bits64);
     let mut guest = Parts {
         guest: Guest::new().unwrap(),
         own: OwnPage::new(page.mapping()),
-        private: Box::new([0; RING_BYTES]),
+        private: Box::new([0; PAGE_BYTES]),
     };
     let mut host = HostParts {
         backend: Backend::new().unwrap(),
-        page: page.shared(abi),
+        ring: page.shared(abi, Pages::One),
         port,
     };
     host.backend.open(port, &usual_sheet_of(abi)).unwrap();
@@ -105,7 +105,7 @@ fn warm() -> (Parts, HostParts) {
     let _ = guest.publish(said);
     let plan = host.start();
     let said = host.complete(&plan);
-    let _ = host.page.copy_response_out(host.backend.page(port), said);
+    let _ = host.ring.copy_response_out(host.backend.ring(port), said);
     guest.own.copy_response_in(&mut guest.private);
     assert!(guest.collect());
     (guest, host)
@@ -132,10 +132,10 @@ fn request_is_lost(order: &[Side], word: Word) -> bool {
     };
     let host_steps = |step| match step % LOOK_STEPS {
         _ if served => {}
-        0 => host.page.copy_in(host.backend.page_mut(host.port)),
+        0 => host.ring.copy_in(host.backend.ring_mut(host.port)),
         1 => served = host.backend.turn() != Turn::Idle,
         _ => {
-            host.page.copy_req_event_out(host.backend.page(host.port));
+            host.ring.copy_req_event_out(host.backend.ring(host.port));
             fence(Ordering::SeqCst);
         }
     };
@@ -160,13 +160,13 @@ fn response_is_lost(order: &[Side]) -> bool {
     };
     let host_steps = |step| match step {
         0 => host
-            .page
-            .copy_rsp_event_in(host.backend.page_mut(host.port)),
+            .ring
+            .copy_rsp_event_in(host.backend.ring_mut(host.port)),
         1 => said = host.complete(&plan),
         _ => {
             if host
-                .page
-                .copy_response_out(host.backend.page(host.port), said)
+                .ring
+                .copy_response_out(host.backend.ring(host.port), said)
             {
                 to_guest.notify();
             }
@@ -261,11 +261,13 @@ impl Asker<'_> {
 
 #[test]
 fn nobody_sleeps_over_anything_in_a_free_run() {
-    let (page, port, abi) = (GuestPage::new(), Port::try_from(0).unwrap(), Abi::Bits64);
+    let (page, port, abi) = (GuestRing::new(), Port::try_from(0).unwrap(), Abi::Bits64);
     let guest = LiveGuest::new(page.mapping()).unwrap();
     let mut backend = LiveBackend::new().unwrap();
     let sheet = usual_sheet_of(abi);
-    backend.open(port, &sheet, page.shared(abi)).unwrap();
+    backend
+        .open(port, &sheet, page.shared(abi, Pages::One))
+        .unwrap();
     backend.grants_mut(port)[0] = 2;
     let bells = Bells::default();
     let put = thread::scope(|scope| {

@@ -27,12 +27,14 @@ static struct {
     int failures;
 } running;
 
-/* Begins the line of a failed check. */
+/* Begins the line of a failed check. Who only asks whether one fails (STOP_AT_FIRST) has heard enough. */
 static inline void report(const char *file, int line, const char *what) {
     printf("%s:%d: %s: %s", file, line, running.name, what);
     if (running.file != NULL)
         printf(" (last call %s:%d)", running.file, running.line);
     running.failures++;
+    if (getenv("STOP_AT_FIRST") != NULL)
+        exit(1);
 }
 
 static inline void check_at(const char *file, int line, const char *fact, bool holds) {
@@ -101,6 +103,12 @@ static inline void give_back(uint8_t *buffer, size_t bytes) {
 static inline void allow_writes(uint8_t *buffer, size_t bytes, bool allowed) {
     uint8_t *pages = buffer - guarded_offset(bytes) + in_pages(1);
     if (placement != ON_HEAP && mprotect(pages, in_pages(bytes), allowed ? PROT_READ | PROT_WRITE : PROT_READ) != 0)
+        abort();
+}
+
+/* Whether pages may be reached at all: where they begin and how long they are is in whole ones. */
+static inline void forbid(uint8_t *pages, size_t bytes, bool forbidden) {
+    if (mprotect(pages, bytes, forbidden ? PROT_NONE : PROT_READ | PROT_WRITE) != 0)
         abort();
 }
 

@@ -12,8 +12,8 @@ static uint64_t found(const host *h) {
 /* ---- nothing to collect */
 
 static void nothing_to_collect(host *h) {
-    for (unsigned rounds = 0; rounds < 3 * KH_SLOTS; rounds += 31)
-        for (unsigned outstanding = 0; outstanding <= KH_SLOTS; outstanding += 8) {
+    for (unsigned rounds = 0; rounds < 3 * KH_PAGE_SLOTS; rounds += 31)
+        for (unsigned outstanding = 0; outstanding <= KH_PAGE_SLOTS; outstanding += 8) {
             BEGIN_FRONT(h, rounds);
             PUT_READS(h, 0, outstanding);
             for (int times = 0; times < 2; times++) {
@@ -28,7 +28,7 @@ static void nothing_to_collect(host *h) {
 /* What isn't outstanding, in the slot that comes next, is not looked at before rsp_prod gets there. */
 static void nothing_to_collect_whatever_the_slot_says(host *h) {
     BEGIN_FRONT(h, 2);
-    memset(h->at[PAGE], 0xFF, KH_RING_BYTES);
+    memset(h->at[PAGE], 0xFF, KH_GUEST_PAGE_BYTES);
     set_page_index(h, KH_RSP_PROD, 2);
     CHECK_EQ(COLLECT(h), KH_OK);
     CHECK_EQ(found(h), 0);
@@ -79,10 +79,10 @@ static void padding_does_not_count(host *h) {
 }
 
 static void one_response_a_call(host *h) {
-    PUT_READS(h, 1, KH_SLOTS);
-    for (uint64_t id = KH_SLOTS; id > 0; id--)
+    PUT_READS(h, 1, KH_PAGE_SLOTS);
+    for (uint64_t id = KH_PAGE_SLOTS; id > 0; id--)
         respond(h, id, KH_READ, id);
-    for (uint64_t id = KH_SLOTS; id > 0; id--) {
+    for (uint64_t id = KH_PAGE_SLOTS; id > 0; id--) {
         CHECK_EQ(COLLECT(h), KH_OK);
         CHECK_EQ(words(h, COLLECT_ANSWER)[KH_COLLECT_ID], id);
         CHECK_EQ(words(h, COLLECT_ANSWER)[KH_COLLECT_STATUS], id);
@@ -93,11 +93,11 @@ static void one_response_a_call(host *h) {
 
 /* Rings of any fill, answered in any order, round and round. */
 static void responses_in_any_order(host *h) {
-    uint64_t ids[KH_SLOTS], next = 0;
+    uint64_t ids[KH_PAGE_SLOTS], next = 0;
     uint32_t waiting = 0;
     state = 2;
     for (int round = 0; round < 120; round++) {
-        for (uint32_t more = below(KH_SLOTS + 1 - waiting); more > 0; more--) {
+        for (uint32_t more = below(KH_PAGE_SLOTS + 1 - waiting); more > 0; more--) {
             PUT_READS(h, next, 1);
             ids[waiting++] = next++;
         }
@@ -107,12 +107,12 @@ static void responses_in_any_order(host *h) {
             ids[which] = ids[--waiting];
         }
     }
-    CHECK(next > 20 * KH_SLOTS);
+    CHECK(next > 20 * KH_PAGE_SLOTS);
 }
 
 /* The guest's indices are its own: what the page says of them changes nothing. */
 static void page_is_not_asked_for_its_own_indices(host *h) {
-    for (uint32_t i = 0; i < 3 * KH_SLOTS; i++) {
+    for (uint32_t i = 0; i < 3 * KH_PAGE_SLOTS; i++) {
         PUT_READS(h, FIRST_ID + i, 1);
         respond(h, FIRST_ID + i, KH_READ, KH_OKAY);
         set_page_index(h, KH_REQ_PROD, i * UINT32_C(2654435761));
@@ -128,7 +128,8 @@ static void page_is_not_asked_for_its_own_indices(host *h) {
 /* ---- refusals */
 
 static void refusal_01_wrong_length(host *h) {
-    static const size_t lengths[] = {0, 1, KH_RING_BYTES - 1, KH_RING_BYTES + 1, 2 * KH_RING_BYTES, KH_RINGS_BYTES};
+    static const size_t lengths[] = {
+        0, 1, KH_GUEST_PAGE_BYTES - 1, KH_GUEST_PAGE_BYTES + 1, 2 * KH_GUEST_PAGE_BYTES, KH_RINGS_BYTES};
     PUT_READS(h, FIRST_ID, 1);
     for (size_t i = 0; i < COUNT_OF(lengths); i++) {
         resize(h, PAGE, lengths[i]); /* 0 is a null pointer; a page of zeros has nothing to collect */
@@ -137,10 +138,10 @@ static void refusal_01_wrong_length(host *h) {
             h->at[PAGE][at] = 0xFF; /* 34 in a page of the right length */
         CHECK_EQ(COLLECT(h), 1);
     }
-    resize(h, PAGE, KH_RING_BYTES);
+    resize(h, PAGE, KH_GUEST_PAGE_BYTES);
     respond(h, FIRST_ID, KH_WRITE, KH_OKAY); /* 35 there */
     CHECK_EQ(kh_guest_collect(guest_memory(h), h->at[PAGE], 0, words(h, COLLECT_ANSWER)), 1);
-    CHECK_EQ(kh_guest_collect(guest_memory(h), h->at[PAGE], KH_RING_BYTES - 1, words(h, COLLECT_ANSWER)), 1);
+    CHECK_EQ(kh_guest_collect(guest_memory(h), h->at[PAGE], KH_GUEST_PAGE_BYTES - 1, words(h, COLLECT_ANSWER)), 1);
     set_page_index(h, KH_RSP_PROD, 0);
     END_READ(h, FIRST_ID);
 }
@@ -256,9 +257,9 @@ static void refusal_35_zeros(host *h) {
 }
 
 static void refusal_35_answered_twice(host *h) {
-    for (uint64_t which = 0; which < KH_SLOTS; which++) {
+    for (uint64_t which = 0; which < KH_PAGE_SLOTS; which++) {
         BEGIN_FRONT(h, which % 5);
-        PUT_READS(h, 0, KH_SLOTS);
+        PUT_READS(h, 0, KH_PAGE_SLOTS);
         CHECK_EQ(COLLECT_AS(h, which, KH_READ), KH_OK);
         CHECK_EQ(COLLECT_AS(h, which, KH_READ), 35);
         CHECK_EQ(ASK(h, KH_WRITE, which, 1), KH_OK);

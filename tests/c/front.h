@@ -84,9 +84,9 @@ static inline bool is_outstanding(const ledger *front, uint64_t id) {
 }
 
 static inline uint32_t put_due(const host *h) {
-    if (h->bytes[PAGE] != KH_RING_BYTES)
+    if (h->bytes[PAGE] != KH_GUEST_PAGE_BYTES)
         return KH_WRONG_LENGTH;
-    if (h->front.count == KH_SLOTS)
+    if (h->front.count == KH_PAGE_SLOTS)
         return KH_RING_FULL;
     if (is_outstanding(&h->front, words(h, REQUEST)[KH_REQUEST_ID]))
         return KH_ID_OUTSTANDING;
@@ -126,23 +126,23 @@ static inline void check_put(host *h) {
     CHECK_EQ(words(h, PUT_ANSWER)[KH_PUT_NOTIFY], get(page + KH_REQ_EVENT, 4) == front->req_prod);
 }
 
-/* The outstanding request that the next response is for, or KH_SLOTS. */
+/* The outstanding request that the next response is for, or KH_PAGE_SLOTS. */
 static inline uint32_t answered_one(const host *h) {
     const uint8_t *slot = slot_in(h->at[PAGE], h->front.rsp_cons);
     for (uint32_t i = 0; i < h->front.count; i++)
         if (h->front.outstanding[i].id == get(slot, 8) && h->front.outstanding[i].operation == slot[8])
             return i;
-    return KH_SLOTS;
+    return KH_PAGE_SLOTS;
 }
 
 static inline uint32_t collect_due(const host *h) {
     uint32_t distance;
-    if (h->bytes[PAGE] != KH_RING_BYTES)
+    if (h->bytes[PAGE] != KH_GUEST_PAGE_BYTES)
         return KH_WRONG_LENGTH;
     distance = page_index(h, KH_RSP_PROD) - h->front.rsp_cons;
     if (distance > h->front.count)
         return KH_BAD_RSP_PROD;
-    return distance > 0 && answered_one(h) == KH_SLOTS ? KH_NOT_OUTSTANDING : KH_OK;
+    return distance > 0 && answered_one(h) == KH_PAGE_SLOTS ? KH_NOT_OUTSTANDING : KH_OK;
 }
 
 static inline void check_nothing_collected(host *h) {

@@ -1,8 +1,9 @@
 /*
- * Eight front ends on Xen's own ring macros, half of them with the records of 32-bit guests, served through the
- * library. Requests of every kind, good and broken, go through many wraps of the rings; each gets one response, with
- * its id, its operation and the status due. Beside the library runs a back end on the same macros, on a copy of the
- * pages: both leave the same bytes and say the same of notifications. The ports' meters say at the end what was due.
+ * Eight front ends on Xen's own ring macros, half of them with the records of 32-bit guests and half with rings of two
+ * pages, served through the library. Requests of every kind, good and broken, go through many wraps of the rings; each
+ * gets one response, with its id, its operation and the status due. Beside the library runs a back end on the same
+ * macros, on a copy of the pages: both leave the same bytes and say the same of notifications. The ports' meters say at
+ * the end what was due.
  *
  * Nobody looks at a ring without being notified: a wake-up that is missing leaves requests unanswered at the end.
  */
@@ -20,6 +21,7 @@ typedef struct {
     uint8_t *shadow;                     /* the pages that the macros' back end works on */
     bool looking;                        /* notified since its last idle turn */
     uint32_t numbers[KH_PORTS][KH_TAGS]; /* the request of each tag */
+    uint32_t most[KH_PORTS];             /* that the guest had outstanding */
     unsigned long notified[2];
     unsigned long steps;
 } world;
@@ -63,7 +65,7 @@ static void end_request(world *w, host *h, uint32_t port, uint32_t tag) {
     const book *b = &h->books[port];
     if (b->busy == 0)
         return;
-    while ((b->busy >> tag % KH_TAGS & 1) == 0)
+    while (!is_busy(b, tag))
         tag++;
     tag %= KH_TAGS;
     uint32_t number = w->numbers[port][tag];
@@ -75,12 +77,16 @@ static void end_request(world *w, host *h, uint32_t port, uint32_t tag) {
 
 /* ---- the run */
 
+static shape ring_of(uint32_t port) {
+    return (shape){guest_of[port].is_32_bit ? KH_BITS32 : KH_BITS64, guest_of[port].pages};
+}
+
 static void attach(world *w, host *h) {
     w->shadow = lend(KH_RINGS_BYTES);
     w->looking = true;
     for (uint32_t port = 0; port < KH_PORTS; port++) {
         const halves *macros = guest_of[port].is_32_bit ? &as_i386 : &as_compiled;
-        sheet s = sheet_for(guest_of[port].is_32_bit ? KH_BITS32 : KH_BITS64, disk_nodes[guest_of[port].disk]);
+        sheet s = sheet_for(ring_of(port), disk_nodes[guest_of[port].disk]);
         w->guests[port].macros = macros;
         w->guests[port].requests = REQUESTS;
         macros->open_front(port, ring(h, port));
@@ -96,7 +102,9 @@ static void step(world *w, host *h, uint32_t draw) {
     draw /= KH_PORTS;
     switch (draw % 8) {
     case 0:
-        w->looking |= send_some(&w->guests[port], port, draw / 8 % 12);
+        w->looking |= send_some(&w->guests[port], port, draw / 8 % 24);
+        if (w->most[port] < w->guests[port].macros->outstanding(port))
+            w->most[port] = w->guests[port].macros->outstanding(port);
         break;
     case 1:
         if (w->heard[port])
@@ -145,13 +153,15 @@ static void frontend_on_xen_macros(host *h) {
     for (uint32_t port = 0; port < KH_PORTS; port++) {
         CHECK_EQ(w.guests[port].collected, REQUESTS);
         CHECK_EQ(index_at(h, port, KH_RSP_PROD), REQUESTS);
+        CHECK_EQ(w.most[port], guest_of[port].pages == 2 ? 64 : 32); /* the ring was full */
         check_meter(h, port);
         CHECK_EQ(CLOSE(h, port), KH_OK);
     }
     CHECK(w.notified[0] > 1000 && w.notified[1] > 1000);
     if (placement != BEFORE_GUARD)
-        printf("     %d requests of %d kinds on each of %d rings, %d wraps, responses with notify %lu, without %lu\n",
-               REQUESTS, KINDS, KH_PORTS, REQUESTS / KH_SLOTS, w.notified[1], w.notified[0]);
+        printf("     %d requests of %d kinds on each of %d rings, %d wraps or %d, responses with notify %lu, without "
+               "%lu\n",
+               REQUESTS, KINDS, KH_PORTS, REQUESTS / KH_PAGE_SLOTS, REQUESTS / KH_TAGS, w.notified[1], w.notified[0]);
     give_back(w.shadow, KH_RINGS_BYTES);
 }
 

@@ -1,7 +1,7 @@
 /*
- * A guest in a process of its own: a front end on Xen's macros, built for 32 or for 64 bits, that shares its ring page
- * with the host of processes.c. It looks at the ring when it has something to send, and else sleeps until it is
- * notified.
+ * A guest in a process of its own: a front end on Xen's macros, built for 32 or for 64 bits, that shares its ring of
+ * one page or two with the host of processes.c. It looks at the ring when it has something to send, and else sleeps
+ * until it is notified.
  *
  *     guest PORT PAGES WAKE BELL    the last three are files: the ring pages, where it is notified, where it notifies
  */
@@ -28,7 +28,7 @@ static void sleep_until_notified(void) {
 }
 
 static bool may_send(const guest *g) {
-    return g->sent < g->requests && g->macros->outstanding(port) < RING_SLOTS;
+    return g->sent < g->requests && g->macros->outstanding(port) < g->macros->slots(port);
 }
 
 static void run(guest *g) {
@@ -43,17 +43,17 @@ static void run(guest *g) {
 
 int main(int words, char **word) {
     static guest g = {.macros = &as_compiled, .requests = MOST_REQUESTS};
-    uint8_t *page;
+    uint8_t *ring;
     if (words != 5)
         return 2;
     running.name = sizeof(void *) == 4 ? "32-bit guest" : "64-bit guest";
     port = (uint32_t)atoi(word[1]);
     wake = atoi(word[3]);
     bell = atoi(word[4]);
-    page = mmap(NULL, RING_BYTES, PROT_READ | PROT_WRITE, MAP_SHARED, atoi(word[2]), (off_t)RING_BYTES * port);
-    if (page == MAP_FAILED)
+    ring = mmap(NULL, SHARE_BYTES, PROT_READ | PROT_WRITE, MAP_SHARED, atoi(word[2]), (off_t)SHARE_BYTES * port);
+    if (ring == MAP_FAILED)
         return 2;
-    g.macros->open_front(port, page);
+    g.macros->open_front(port, ring);
     run(&g);
     return running.failures != 0;
 }

@@ -33,11 +33,11 @@ static inline void take_response(guest *g, uint32_t port, const response *given)
 
 /* Collects the responses, and asks to be notified of the next one, or of one later than that. */
 static inline void collect_all(guest *g, uint32_t port, uint32_t later) {
-    response came[RING_SLOTS];
+    response came[MOST_SLOTS];
     do {
         uint32_t count = g->macros->collect(port, came);
-        CHECK(count <= RING_SLOTS);
-        for (uint32_t i = 0; i < count && count <= RING_SLOTS; i++)
+        CHECK(count <= g->macros->slots(port));
+        for (uint32_t i = 0; i < count && count <= MOST_SLOTS; i++)
             take_response(g, port, &came[i]);
     } while (g->macros->ask(port, later) && running.failures == 0);
 }

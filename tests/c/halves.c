@@ -41,7 +41,7 @@ typedef struct {
     blkif_front_ring_t front; /* on the second page */
     blkif_back_ring_t back[2];
     uint32_t sent, collected;
-    uint32_t numbers[KH_SLOTS]; /* taken by the back ends and not answered */
+    uint32_t numbers[KH_PAGE_SLOTS]; /* taken by the back ends and not answered */
     uint32_t unanswered;
     unsigned long notified[2], full, empty;
 } world;
@@ -101,7 +101,7 @@ static bool answer_by(blkif_back_ring_t *back, uint32_t number) {
 static void send_both(world *w, host *h) {
     kh_request r = request_by(w->sent);
     int notify;
-    CHECK_EQ(h->front.count == KH_SLOTS, RING_FULL(&w->front));
+    CHECK_EQ(h->front.count == KH_PAGE_SLOTS, RING_FULL(&w->front));
     if (RING_FULL(&w->front)) {
         CHECK_EQ(PUT_REQUEST(h, r), KH_RING_FULL);
         w->full++;
@@ -171,9 +171,9 @@ static void attach(world *w, host *h, uint8_t *second) {
     memset(w, 0, sizeof *w);
     for (int i = 0; i < 2; i++) {
         SHARED_RING_INIT(pages[i]);
-        BACK_RING_INIT(&w->back[i], pages[i], KH_RING_BYTES);
+        BACK_RING_INIT(&w->back[i], pages[i], KH_GUEST_PAGE_BYTES);
     }
-    FRONT_RING_INIT(&w->front, pages[1], KH_RING_BYTES);
+    FRONT_RING_INIT(&w->front, pages[1], KH_GUEST_PAGE_BYTES);
 }
 
 /* In some stretches the ring fills, in some it is emptied. */
@@ -182,7 +182,7 @@ static void step_both(world *w, host *h, uint32_t stretch) {
     if (draw < 2)
         take_both(w);
     else if (draw < 4)
-        answer_both(w, below(KH_SLOTS));
+        answer_both(w, below(KH_PAGE_SLOTS));
     else if (draw < 6)
         collect_both(w, h);
     else
@@ -191,25 +191,25 @@ static void step_both(world *w, host *h, uint32_t stretch) {
 
 static void side_by_side_with_xen_macros(host *h) {
     static world w;
-    uint8_t *second = lend(KH_RING_BYTES);
+    uint8_t *second = lend(KH_GUEST_PAGE_BYTES);
     attach(&w, h, second);
     state = 3;
     for (uint32_t i = 0; i < STEPS && running.failures == 0; i++) {
         step_both(&w, h, i / 256);
-        CHECK(memcmp(h->at[PAGE], second, KH_RING_BYTES) == 0);
+        CHECK(memcmp(h->at[PAGE], second, KH_GUEST_PAGE_BYTES) == 0);
     }
-    CHECK(w.sent > 100 * KH_SLOTS && w.full > 0 && w.empty > 0 && w.notified[0] > 0 && w.notified[1] > 0);
+    CHECK(w.sent > 100 * KH_PAGE_SLOTS && w.full > 0 && w.empty > 0 && w.notified[0] > 0 && w.notified[1] > 0);
     if (placement != BEFORE_GUARD)
         printf("     %u requests put, %u responses collected, %u wraps, notify %lu, no notify %lu\n", w.sent,
-               w.collected, w.sent / KH_SLOTS, w.notified[1], w.notified[0]);
-    give_back(second, KH_RING_BYTES);
+               w.collected, w.sent / KH_PAGE_SLOTS, w.notified[1], w.notified[0]);
+    give_back(second, KH_GUEST_PAGE_BYTES);
 }
 
 /* ---- together with the library's backend */
 
 typedef struct {
     uint32_t sent, taken, collected;
-    uint32_t answered[KH_SLOTS]; /* numbers, by the index of their responses */
+    uint32_t answered[KH_PAGE_SLOTS]; /* numbers, by the index of their responses */
     uint32_t of_tag[KH_TAGS];
     bool looking, heard; /* the host, and the guest, was notified since it last found nothing */
     bool never_secure;   /* the disk's discard-secure is 0 */
@@ -217,11 +217,11 @@ typedef struct {
 
 /* A host lends a copy, so the page goes there and back. */
 static void lend_page(const host *h) {
-    memcpy(ring(h, 0), h->at[PAGE], KH_RING_BYTES);
+    memcpy(ring(h, 0), h->at[PAGE], KH_GUEST_PAGE_BYTES);
 }
 
 static void hand_back(const host *h) {
-    memcpy(h->at[PAGE], ring(h, 0), KH_RING_BYTES);
+    memcpy(h->at[PAGE], ring(h, 0), KH_GUEST_PAGE_BYTES);
 }
 
 static uint32_t result_of(const host *h, uint32_t tag, uint32_t number) {
@@ -232,12 +232,12 @@ static uint32_t result_of(const host *h, uint32_t tag, uint32_t number) {
 
 /* The response of request `number` is the next one. */
 static void note_answer(pair *p, const host *h, uint32_t number, bool notify) {
-    p->answered[(h->books[0].answered - 1) % KH_SLOTS] = number;
+    p->answered[(h->books[0].answered - 1) % KH_PAGE_SLOTS] = number;
     p->heard |= notify;
 }
 
 static void send_one(pair *p, host *h) {
-    bool is_full = p->sent - p->collected == KH_SLOTS;
+    bool is_full = p->sent - p->collected == KH_PAGE_SLOTS;
     CHECK_EQ(PUT_REQUEST(h, request_by(p->sent)), is_full ? KH_RING_FULL : KH_OK);
     if (is_full)
         return;
@@ -279,7 +279,7 @@ static void complete_one(pair *p, host *h, uint32_t tag) {
 
 static void collect_one(pair *p, host *h) {
     kh_collected collected;
-    uint32_t number = p->answered[p->collected % KH_SLOTS];
+    uint32_t number = p->answered[p->collected % KH_PAGE_SLOTS];
     CHECK_EQ(COLLECT(h), KH_OK);
     collected = kh_read_collected(words(h, COLLECT_ANSWER));
     p->heard = collected.found;
@@ -328,10 +328,10 @@ static void together_with_the_backend(host *h) {
     for (uint32_t i = 0; i < STEPS && running.failures == 0; i++)
         step_pair(&p, h, i / 256);
     finish_pair(&p, h);
-    CHECK(p.sent > 50 * KH_SLOTS);
+    CHECK(p.sent > 50 * KH_PAGE_SLOTS);
     CHECK_EQ(CLOSE(h, 0), KH_OK);
     if (placement != BEFORE_GUARD)
-        printf("     %u requests put, taken, answered and collected, %u wraps\n", p.sent, p.sent / KH_SLOTS);
+        printf("     %u requests put, taken, answered and collected, %u wraps\n", p.sent, p.sent / KH_PAGE_SLOTS);
 }
 
 /* Requests one by one, from a page of zeros: put, taken, answered, collected. */
@@ -339,7 +339,7 @@ static void one_by_one(host *h, bool never_secure) {
     pair p = {.looking = true, .heard = true, .never_secure = never_secure};
     turn_once(&p, h);
     collect_one(&p, h);
-    for (uint32_t i = 0; i < 10 * KH_SLOTS && running.failures == 0; i++) {
+    for (uint32_t i = 0; i < 10 * KH_PAGE_SLOTS && running.failures == 0; i++) {
         send_one(&p, h);
         CHECK(p.looking);
         turn_once(&p, h);
@@ -368,15 +368,15 @@ static void full_rings(host *h) {
     pair p = {.looking = true, .heard = true};
     BEGIN(h, ALL_FEATURES);
     for (uint32_t round = 0; round < 40 && running.failures == 0; round++) {
-        for (unsigned i = 0; i <= KH_SLOTS; i++)
+        for (unsigned i = 0; i <= KH_PAGE_SLOTS; i++)
             send_one(&p, h);
-        for (unsigned i = 0; i <= KH_SLOTS; i++)
+        for (unsigned i = 0; i <= KH_PAGE_SLOTS; i++)
             turn_once(&p, h);
-        for (unsigned i = 0; i < KH_SLOTS; i++)
+        for (unsigned i = 0; i < KH_PAGE_SLOTS; i++)
             complete_one(&p, h, 7 * i + round);
-        for (unsigned i = 0; i <= KH_SLOTS; i++)
+        for (unsigned i = 0; i <= KH_PAGE_SLOTS; i++)
             collect_one(&p, h);
-        CHECK_EQ(p.collected, KH_SLOTS * (round + 1));
+        CHECK_EQ(p.collected, KH_PAGE_SLOTS * (round + 1));
     }
 }
 

@@ -65,6 +65,20 @@ static enum kh_abi abi_of_protocol(const char *protocol) {
     return kh_read_abi(sheet, sizeof sheet);
 }
 
+static uint32_t pages_of_order(char digit) {
+    const uint8_t sheet[1 + 4 + 1] = {1, KH_NODE_RING_PAGE_ORDER, 0, 1, 0, (uint8_t)digit};
+    return kh_read_pages(sheet, sizeof sheet);
+}
+
+static void check_rings(void) {
+    CHECK_EQ(pages_of_order('0'), 1);
+    CHECK_EQ(pages_of_order('1'), 2);
+    CHECK_EQ(kh_slots(1), 32);
+    CHECK_EQ(kh_slots(2), 64);
+    CHECK_EQ(KH_RINGS_BYTES, 65536);
+    CHECK_EQ(KH_RING_BYTES, 8192);
+}
+
 static void check_layouts(void) {
     CHECK_EQ(abi_of_protocol("x86_64-abi"), KH_BITS64);
     CHECK_EQ(abi_of_protocol("x86_32-abi"), KH_BITS32);
@@ -192,7 +206,7 @@ static void check_collected_reader(void) {
 
 /* A guest that puts a read; a backend's answer to it. */
 static void check_guest_calls(void) {
-    static uint8_t page[KH_RING_BYTES];
+    static uint8_t page[KH_GUEST_PAGE_BYTES];
     static kh_guest guest;
     kh_request request = {KH_READ, 0x1234, 8, 1, 0, 0, {{9, 0, 7}}};
     uint64_t words[KH_REQUEST_WORDS], notify[KH_PUT_WORDS], answer[KH_COLLECT_WORDS];
@@ -219,6 +233,7 @@ int main(void) {
     check_names();
     check_reason_texts();
     check_layouts();
+    check_rings();
     check_meter_places();
     check_calls();
     check_turn_reader();

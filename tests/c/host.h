@@ -34,13 +34,22 @@ static const layout layouts[] = {
     [KH_BITS32] = {"x86_32-abi", 108, 12, 4, 12, 20},
 };
 
+/* What a guest's ring is like (rules 2.3 and 3.5). */
+typedef struct {
+    enum kh_abi abi;
+    uint32_t pages;
+} shape;
+
+/* One to each: rings of both layouts and both sizes. */
+static const shape shapes[] = {{KH_BITS64, 1}, {KH_BITS32, 1}, {KH_BITS64, 2}, {KH_BITS32, 2}};
+
 /* What the answers so far say of a port. */
 typedef struct {
     bool open;
-    enum kh_abi abi;
+    shape ring;
     uint32_t taken;
     uint32_t answered;
-    uint32_t busy;
+    uint64_t busy;
     started tags[KH_TAGS];
 } book;
 
@@ -50,7 +59,7 @@ typedef struct {
     uint32_t count; /* outstanding */
     struct {
         uint64_t id, operation;
-    } outstanding[KH_SLOTS];
+    } outstanding[KH_PAGE_SLOTS];
 } ledger;
 
 typedef struct {
@@ -59,7 +68,8 @@ typedef struct {
     size_t bytes[AREAS];
     book books[KH_PORTS];
     kh_meter counts[KH_PORTS]; /* what each meter has to say, whatever opens and closes between */
-    enum kh_abi abi;           /* of the ports that are opened by nodes that name no protocol */
+    shape ring;                /* of the ports that are opened by nodes that don't say it */
+    bool shuts;                /* pages of the rings that no call may reach are out of reach while one runs */
     ledger front;
 } host;
 
@@ -93,22 +103,31 @@ static inline void set_index(const host *h, uint32_t port, unsigned field, uint3
 }
 
 static inline const layout *layout_of(const host *h, uint32_t port) {
-    return &layouts[h->books[port].abi];
+    return &layouts[h->books[port].ring.abi];
 }
 
-/* Where a slot lies in its page. */
-static inline unsigned slot_offset(const layout *l, uint32_t index) {
-    return KH_HEADER_BYTES + l->slot * (index % KH_SLOTS);
+/* How many slots a ring has, and tags its port. */
+static inline uint32_t slots_in(shape s) {
+    return s.pages == 2 ? 64 : 32;
+}
+
+static inline uint32_t slots_of(const host *h, uint32_t port) {
+    return slots_in(h->books[port].ring);
+}
+
+/* Where a slot lies in its ring. */
+static inline unsigned slot_offset(shape s, uint32_t index) {
+    return KH_HEADER_BYTES + layouts[s.abi].slot * (index % slots_in(s));
 }
 
 /* A slot of a port's ring. */
 static inline uint8_t *slot_of(const host *h, uint32_t port, uint32_t index) {
-    return ring(h, port) + slot_offset(layout_of(h, port), index);
+    return ring(h, port) + slot_offset(h->books[port].ring, index);
 }
 
-/* A slot of a 64-bit guest's page. */
+/* A slot of the guest's page. */
 static inline uint8_t *slot_in(uint8_t *page, uint32_t index) {
-    return page + slot_offset(&layouts[KH_BITS64], index);
+    return page + slot_offset((shape){KH_BITS64, 1}, index);
 }
 
 static inline void grant(const host *h, uint32_t port, uint32_t frame, uint8_t value) {
@@ -127,7 +146,7 @@ static inline void resize(host *h, enum area area, size_t bytes) {
 
 /*
  * The empty backend, empty rings, new meters, and frames 0 to 15 of every port granted for read and write; a fresh
- * guest and its page.
+ * guest and its page. Second halves of the ports' shares are rubbish, which a ring of one page has nothing to do with.
  */
 static inline void reset(host *h) {
     static const size_t bytes[AREAS] = {[MEMORY] = 8 * KH_MEMORY_WORDS,
@@ -137,7 +156,7 @@ static inline void reset(host *h) {
                                         [COMPLETED] = 8 * KH_DONE_WORDS,
                                         [METERS] = KH_PORTS * sizeof(kh_meter),
                                         [GUEST] = 8 * KH_GUEST_WORDS,
-                                        [PAGE] = KH_RING_BYTES,
+                                        [PAGE] = KH_GUEST_PAGE_BYTES,
                                         [REQUEST] = 8 * KH_REQUEST_WORDS,
                                         [PUT_ANSWER] = 8 * KH_PUT_WORDS,
                                         [COLLECT_ANSWER] = 8 * KH_COLLECT_WORDS};
@@ -146,8 +165,10 @@ static inline void reset(host *h) {
             resize(h, (enum area)area, bytes[area]);
         memset(h->at[area], 0, bytes[area]);
     }
-    for (uint32_t port = 0; port < KH_PORTS; port++)
+    for (uint32_t port = 0; port < KH_PORTS; port++) {
+        memset(ring(h, port) + KH_PAGE_BYTES, 0xEE, KH_PAGE_BYTES);
         memset(h->at[GRANTS] + KH_PORT_GRANTS * port, KH_GRANT_READ_WRITE, 16);
+    }
     memset(h->books, 0, sizeof h->books);
     memset(h->counts, 0, sizeof h->counts);
     memset(&h->front, 0, sizeof h->front);
@@ -207,11 +228,11 @@ static inline void hand_over(const host *h, enum area area, uint32_t number, uin
     check_same(h, METERS);
 }
 
-/* Puts a port's next response into the page that it was before the call, and checks the call's notify. */
+/* Puts a port's next response into the ring that it was before the call, and checks the call's notify. */
 static inline void expect_response(host *h, uint32_t port, const started *request, uint64_t status, uint64_t notify) {
     const layout *l = layout_of(h, port);
     uint8_t *page = h->before[RINGS] + KH_RING_BYTES * port;
-    uint8_t *slot = page + slot_offset(l, h->books[port].answered++);
+    uint8_t *slot = page + slot_offset(h->books[port].ring, h->books[port].answered++);
     CHECK_EQ(notify, get(page + KH_RSP_EVENT, 4) == h->books[port].answered);
     count_status(&h->counts[port], status);
     put(slot, 8, request->id);
@@ -221,22 +242,32 @@ static inline void expect_response(host *h, uint32_t port, const started *reques
     put(page + KH_RSP_PROD, 4, h->books[port].answered);
 }
 
-static inline uint32_t lowest_free(uint32_t busy) {
+static inline bool is_busy(const book *b, uint32_t tag) {
+    return (b->busy >> tag % KH_TAGS & 1) != 0;
+}
+
+/* Whether it is what a started request was answered with. */
+static inline bool names_request(const book *b, uint32_t tag, uint32_t serial) {
+    return tag < slots_in(b->ring) && is_busy(b, tag) && b->tags[tag].serial == serial;
+}
+
+static inline uint32_t lowest_free(const book *b) {
     uint32_t tag = 0;
-    while (tag < KH_TAGS && (busy >> tag & 1) != 0)
+    while (tag < slots_in(b->ring) && is_busy(b, tag))
         tag++;
     return tag;
 }
 
 static inline void check_started(book *b, started request, const uint64_t *answer) {
-    CHECK_EQ(answer[KH_TURN_TAG], lowest_free(b->busy));
+    CHECK_EQ(answer[KH_TURN_TAG], lowest_free(b));
+    CHECK(answer[KH_TURN_TAG] < slots_in(b->ring));
     CHECK_EQ(answer[KH_TURN_SERIAL], b->taken);
     CHECK_EQ(answer[KH_TURN_OPERATION], request.operation);
     CHECK(answer[KH_TURN_SECURE] <= (request.operation == KH_DISCARD));
     CHECK(answer[KH_TURN_EXTENT_COUNT] <= KH_EXTENTS);
     request.serial = b->taken++;
     request.expected = request.operation <= KH_BARRIER ? (int64_t)answer[KH_TURN_COUNT] : 0;
-    b->busy |= UINT32_C(1) << answer[KH_TURN_TAG] % KH_TAGS;
+    b->busy |= UINT64_C(1) << answer[KH_TURN_TAG] % KH_TAGS;
     b->tags[answer[KH_TURN_TAG] % KH_TAGS] = request;
 }
 
@@ -248,10 +279,24 @@ static inline void check_answered(host *h, uint32_t port, started request, const
     expect_response(h, port, &request, answer[KH_TURN_STATUS], answer[KH_TURN_NOTIFY]);
 }
 
+/* Nothing is published that was not taken. */
 static inline void expect_req_events(host *h) {
-    for (uint32_t port = 0; port < KH_PORTS; port++)
-        if (h->books[port].open)
-            put(h->before[RINGS] + KH_RING_BYTES * port + KH_REQ_EVENT, 4, h->books[port].taken + 1);
+    for (uint32_t port = 0; port < KH_PORTS; port++) {
+        uint8_t *header = h->before[RINGS] + KH_RING_BYTES * port;
+        if (!h->books[port].open)
+            continue;
+        CHECK_EQ(get(header + KH_REQ_PROD, 4), h->books[port].taken);
+        put(header + KH_REQ_EVENT, 4, h->books[port].taken + 1);
+    }
+}
+
+/* Whether a request waits on a port, or it overruns: by what was published, and by what is in flight. */
+static inline void check_line(const host *h, uint32_t port, uint64_t kind) {
+    const book *b = &h->books[port];
+    uint32_t waiting = (uint32_t)get(h->before[RINGS] + KH_RING_BYTES * port + KH_REQ_PROD, 4) - b->taken;
+    uint64_t room = slots_in(b->ring) - (uint64_t)(b->taken - b->answered);
+    CHECK(b->open && waiting > 0);
+    CHECK_EQ(kind == KH_OVERRUN, waiting > room);
 }
 
 /* Whether a kind uses a word of the answer. */
@@ -272,10 +317,11 @@ static inline void check_turn(host *h) {
     uint32_t port = (uint32_t)(answer[KH_TURN_PORT] % KH_PORTS);
     book *b = &h->books[port];
     const layout *l = layout_of(h, port);
-    const uint8_t *slot = h->before[RINGS] + KH_RING_BYTES * port + slot_offset(l, b->taken);
+    const uint8_t *slot = h->before[RINGS] + KH_RING_BYTES * port + slot_offset(b->ring, b->taken);
     started request = {get(slot + l->id, 8), slot[0], 0, 0};
     CHECK(answer[KH_TURN_KIND] <= KH_OVERRUN && answer[KH_TURN_PORT] < KH_PORTS);
-    CHECK(answer[KH_TURN_KIND] == KH_IDLE || b->open);
+    if (answer[KH_TURN_KIND] != KH_IDLE)
+        check_line(h, port, answer[KH_TURN_KIND]);
     if (answer[KH_TURN_KIND] == KH_IDLE)
         expect_req_events(h);
     else if (answer[KH_TURN_KIND] == KH_STARTED)
@@ -296,26 +342,34 @@ static inline void check_completion(host *h, uint32_t port, uint32_t tag, uint32
     const uint64_t *answer = words(h, COMPLETED);
     book *b = &h->books[port % KH_PORTS];
     started *request = &b->tags[tag % KH_TAGS];
-    CHECK(port < KH_PORTS && tag < KH_TAGS);
-    CHECK((b->busy >> tag % KH_TAGS & 1) != 0 && request->serial == serial);
+    CHECK(port < KH_PORTS && names_request(b, tag, serial));
     CHECK_EQ(answer[KH_DONE_PORT], port);
     CHECK_EQ(answer[KH_DONE_STATUS], result == request->expected ? 0 : result == KH_RESULT_NOT_SUPPORTED ? 2 : 1);
     for (unsigned word = KH_DONE_NOTIFY + 1; word < KH_DONE_WORDS; word++)
         CHECK_EQ(answer[word], 0);
-    b->busy &= ~(UINT32_C(1) << tag % KH_TAGS);
+    b->busy &= ~(UINT64_C(1) << tag % KH_TAGS);
     expect_response(h, port % KH_PORTS, request, answer[KH_DONE_STATUS], answer[KH_DONE_NOTIFY]);
     check_same(h, RINGS);
 }
 
 /* ---- the calls; each returns the call's number */
 
+/* The second half of each share but those of rings that go so far, where the host shuts them. */
+static inline void shut_pages(const host *h, bool shut) {
+    if (!h->shuts || placement == ON_HEAP)
+        return;
+    for (uint32_t port = 0; port < KH_PORTS; port++)
+        if (h->books[port].ring.pages != 2)
+            forbid(ring(h, port) + KH_PAGE_BYTES, KH_PAGE_BYTES, shut);
+}
+
 static inline uint32_t do_open(host *h, uint32_t port, const uint8_t *sheet, size_t bytes) {
     uint8_t *lent = bytes > 0 ? lend(bytes) : NULL;
-    enum kh_abi abi;
+    shape asked;
     uint32_t number;
     if (bytes > 0)
         memcpy(lent, sheet, bytes);
-    abi = kh_read_abi(lent, bytes);
+    asked = (shape){kh_read_abi(lent, bytes), kh_read_pages(lent, bytes)};
     remember(h);
     number = kh_open(memory_of(h), port, lent, bytes);
     check_kept(h, number, 1 << MEMORY);
@@ -326,7 +380,7 @@ static inline uint32_t do_open(host *h, uint32_t port, const uint8_t *sheet, siz
     if (number == KH_OK) {
         memset(&h->books[port], 0, sizeof h->books[port]);
         h->books[port].open = true;
-        h->books[port].abi = abi;
+        h->books[port].ring = asked;
     }
     return number;
 }
@@ -345,7 +399,9 @@ static inline uint32_t do_turn(host *h) {
     uint32_t number;
     memset(h->at[TURNED], 0xA5, h->bytes[TURNED]);
     remember(h);
+    shut_pages(h, true);
     number = kh_turn(memory_of(h), h->at[RINGS], h->bytes[RINGS], h->at[GRANTS], h->bytes[GRANTS], words(h, TURNED));
+    shut_pages(h, false);
     check_kept(h, number, 1 << MEMORY | 1 << RINGS | 1 << TURNED);
     if (number == KH_OK)
         check_turn(h);
@@ -357,10 +413,13 @@ static inline uint32_t do_complete(host *h, uint32_t port, uint32_t tag, uint32_
     uint32_t number;
     memset(h->at[COMPLETED], 0xA5, h->bytes[COMPLETED]);
     remember(h);
+    shut_pages(h, true);
     number = kh_complete(memory_of(h), h->at[RINGS], h->bytes[RINGS], port, tag, serial, result, words(h, COMPLETED));
+    shut_pages(h, false);
     check_kept(h, number, 1 << MEMORY | 1 << RINGS | 1 << COMPLETED);
     if (number == KH_OK)
         check_completion(h, port, tag, serial, result);
+    CHECK(number != KH_NOT_BUSY || !names_request(&h->books[port % KH_PORTS], tag, serial));
     hand_over(h, COMPLETED, number, port % KH_PORTS);
     return number;
 }

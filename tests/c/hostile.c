@@ -29,7 +29,7 @@ static const struct {
 static unsigned long came[CALL_COUNT][LAST_NUMBER + 1];
 static unsigned long kinds[KH_OVERRUN + 1];
 static unsigned long reasons[KH_UNALIGNED + 1];
-static unsigned long responses[COUNT_OF(layouts)];
+static unsigned long responses[COUNT_OF(shapes)];
 
 static void begin_counts(void) {
     state = seed;
@@ -60,10 +60,13 @@ static void print_counts(void) {
         printf(" kind %u: %lu,", kind, kinds[kind]);
     for (unsigned reason = KH_UNKNOWN_OPERATION; reason < COUNT_OF(reasons); reason++)
         printf(" reason %u: %lu,", reason, reasons[reason]);
-    printf(" responses, 64-bit: %lu, 32-bit: %lu\n", responses[KH_BITS64], responses[KH_BITS32]);
+    printf(" responses");
+    for (size_t s = 0; s < COUNT_OF(shapes); s++)
+        printf(", %d-bit, %u pages: %lu", shapes[s].abi == KH_BITS32 ? 32 : 64, shapes[s].pages, responses[s]);
+    printf("\n");
 }
 
-/* All numbers came, kinds and reasons too but for the one that is withdrawn, and responses of both layouts. */
+/* All numbers came, kinds and reasons too but for the one that is withdrawn, and responses in rings of every shape. */
 static void end_counts(void) {
     for (int call = 0; call < CALL_COUNT; call++)
         for (unsigned number = 0; number <= LAST_NUMBER; number++)
@@ -72,8 +75,8 @@ static void end_counts(void) {
         CHECK(kinds[kind] > 0);
     for (unsigned reason = KH_UNKNOWN_OPERATION; reason < COUNT_OF(reasons); reason++)
         CHECK_EQ(reasons[reason] > 0, reason != WITHDRAWN);
-    for (unsigned abi = 0; abi < COUNT_OF(responses); abi++)
-        CHECK(responses[abi] > 0);
+    for (size_t s = 0; s < COUNT_OF(shapes); s++)
+        CHECK(responses[s] > 0);
     if (placement != BEFORE_GUARD || running.failures > 0)
         print_counts(); /* the same in both places */
 }
@@ -135,6 +138,22 @@ static void end_marks(void) {
                discards[1][0], discards[0][0] + discards[0][1]);
 }
 
+/* ---- how full the rings were, by their pages */
+
+static uint32_t most_in_flight[KH_RING_PAGES + 1];
+
+static void note_in_flight(const host *h) {
+    const book *b = &h->books[words(h, TURNED)[KH_TURN_PORT] % KH_PORTS];
+    uint32_t in_flight = b->taken - b->answered, *most = &most_in_flight[b->ring.pages];
+    if (*most < in_flight)
+        *most = in_flight;
+}
+
+static void end_in_flight(void) {
+    CHECK_EQ(most_in_flight[1], 32);
+    CHECK_EQ(most_in_flight[2], 64);
+}
+
 /* ---- arguments */
 
 static uint32_t any_port(void) {
@@ -171,6 +190,13 @@ static sheet any_sheet(void) {
                                        "1:w 2:1 3:1 4:1 5:0 6:4096 7:2008 8:x86_32-abi 9:0",
                                        "1:w 4:1 5:1 6:1024 7:18446744073709551615 8:x86_32-abi",
                                        "1:w 2:1 6:2048 7:2008 8:x86_32-abi",
+                                       USUAL_NODES " 9:1",
+                                       ALL_FEATURES " 9:1",
+                                       "1:w 2:1 3:1 4:1 5:0 6:4096 7:2008 8:x86_64-abi 9:1",
+                                       USUAL_NODES " 8:x86_32-abi 9:1",
+                                       ALL_FEATURES " 8:x86_32-abi 9:1",
+                                       "1:w 4:1 5:1 6:1024 7:18446744073709551615 8:x86_32-abi 9:1",
+                                       USUAL_NODES " 9:2",
                                        "1:w 6:512",
                                        "1:w 6:513 7:1"};
     sheet s = one_in(4) ? any_sectors() : sheet_of(good[below(COUNT_OF(good))]);
@@ -222,17 +248,17 @@ static request any_request(void) {
     return r;
 }
 
-/* What a guest may do to its page between two calls. */
-static void guest_writes(const host *h, uint32_t port) {
+/* What a guest may do to its ring between two calls; one that is patient asks for what starts, and seldom breaks it. */
+static void guest_writes(const host *h, uint32_t port, bool patient) {
     uint32_t frame = below(20);
     set_index(h, port, KH_REQ_PROD, h->books[port].taken);
     for (uint32_t i = below(4); i > 0; i--)
-        post(h, port, any_request());
+        post(h, port, patient && !one_in(4) ? transfer(KH_READ, 1, 0) : any_request());
     if (one_in(6))
         fill(slot_of(h, port, (uint32_t)any()), layout_of(h, port)->slot);
-    if (one_in(40))
+    if (one_in(patient ? 2000 : 40))
         set_index(h, port, KH_REQ_PROD, (uint32_t)any());
-    if (one_in(200))
+    if (one_in(patient ? 2000 : 200))
         fill(ring(h, port), KH_RING_BYTES);
     if (one_in(2))
         set_index(h, port, KH_RSP_EVENT, h->books[port].answered + below(3));
@@ -248,8 +274,15 @@ static void host_writes(host *h, uint32_t port) {
 
 /* One buffer has a wrong length for one call, once in a while. */
 static bool lend_wrongly(host *h) {
-    static const size_t lengths[] = {
-        0, 1, KH_RING_BYTES, KH_GRANTS_BYTES - 1, KH_GRANTS_BYTES + 1, KH_RINGS_BYTES - 1, KH_RINGS_BYTES + 1};
+    static const size_t lengths[] = {0,
+                                     1,
+                                     KH_PAGE_BYTES,
+                                     KH_RING_BYTES,
+                                     KH_GRANTS_BYTES - 1,
+                                     KH_GRANTS_BYTES + 1,
+                                     KH_PORTS * KH_PAGE_BYTES,
+                                     KH_RINGS_BYTES - 1,
+                                     KH_RINGS_BYTES + 1};
     enum area area = one_in(2) ? RINGS : GRANTS;
     if (!one_in(64))
         return false;
@@ -272,9 +305,10 @@ static void call_open(host *h) {
     count(h, CALL_OPEN, OPEN(h, any_port(), s.bytes, s.length));
 }
 
-/* Counts the response of a call that was done. */
-static void count_response(const host *h, uint64_t port) {
-    responses[h->books[port % KH_PORTS].abi]++;
+/* Counts the response of a call that was done, by the ring that it is in. */
+static void count_response(shape ring) {
+    for (size_t s = 0; s < COUNT_OF(shapes); s++)
+        responses[s] += shapes[s].abi == ring.abi && shapes[s].pages == ring.pages;
 }
 
 static void call_turn(host *h) {
@@ -284,9 +318,10 @@ static void call_turn(host *h) {
     if (number == KH_OK) {
         check_size(h);
         check_mark(h);
+        note_in_flight(h);
     }
     if (number == KH_OK && answer[KH_TURN_KIND] == KH_ANSWERED)
-        count_response(h, answer[KH_TURN_PORT]);
+        count_response(h->books[answer[KH_TURN_PORT] % KH_PORTS].ring);
 }
 
 static void call_complete(host *h) {
@@ -294,23 +329,24 @@ static void call_complete(host *h) {
     uint32_t tag = one_in(16) ? (uint32_t)any() : below(KH_TAGS);
     const book *b = &h->books[port % KH_PORTS];
     if (b->busy != 0 && !one_in(8))
-        while ((b->busy >> tag % KH_TAGS & 1) == 0)
+        while (!is_busy(b, tag))
             tag = (tag + 1) % KH_TAGS;
     const started *request = &b->tags[tag % KH_TAGS];
     uint32_t serial = one_in(16) ? (uint32_t)any() : request->serial;
     uint32_t number = COMPLETE(h, port, tag, serial, any_result(request));
     count(h, CALL_COMPLETE, number);
     if (number == KH_OK)
-        count_response(h, port);
+        count_response(b->ring);
 }
 
-static void call_any(host *h) {
+/* Where completions are slow, the rings fill up. */
+static void call_any(host *h, bool slow) {
     uint32_t draw = below(100);
     if (draw < 15)
         call_open(h);
     else if (draw < 20)
         count(h, CALL_CLOSE, CLOSE(h, any_port()));
-    else if (draw < 60)
+    else if (draw < (slow ? 95 : 60))
         call_turn(h);
     else
         call_complete(h);
@@ -320,18 +356,20 @@ static void any_calls_from_the_empty_backend(host *h) {
     begin_counts();
     begin_sizes();
     memset(discards, 0, sizeof discards);
+    memset(most_in_flight, 0, sizeof most_in_flight);
     for (int i = 0; i < CALLS; i++) {
-        bool wrong;
-        guest_writes(h, below(KH_PORTS));
+        bool wrong, slow = i / 4096 % 4 == 1;
+        guest_writes(h, below(KH_PORTS), slow);
         host_writes(h, below(KH_PORTS));
-        wrong = lend_wrongly(h);
-        call_any(h);
+        wrong = !slow && lend_wrongly(h); /* which empties the rings */
+        call_any(h, slow);
         if (wrong)
             lend_rightly(h);
     }
     end_counts();
     end_sizes();
     end_marks();
+    end_in_flight();
 }
 
 /* ---- calls on memory of any content, which is some backend too; no books can be kept of it */
@@ -341,24 +379,19 @@ static void take_over(const host *h, uint32_t port, unsigned at, unsigned bytes)
     memcpy(h->before[RINGS] + KH_RING_BYTES * port + at, ring(h, port) + at, bytes);
 }
 
-/* Whether the page's bytes are the same before and after these ones. */
-static bool is_same_but(const host *h, uint32_t port, unsigned at, unsigned bytes) {
-    const uint8_t *before = h->before[RINGS] + KH_RING_BYTES * port, *after = ring(h, port);
-    return memcmp(before, after, at) == 0 &&
-           memcmp(before + at + bytes, after + at + bytes, KH_RING_BYTES - at - bytes) == 0;
+/* What the ring of a port is like, by any content of its words (rule 14.3). */
+static shape ring_by_words(const host *h, uint32_t port) {
+    const uint64_t *kept = words_of_port((kh_memory *)(void *)h->before[MEMORY], port);
+    return (shape){kept[LAYOUT] != 0 ? KH_BITS32 : KH_BITS64, (kept[PAGES] & SECOND_PAGE) != 0 ? 2 : 1};
 }
 
-/* The layout is in words that nobody here can read: the last response is of one of them, the shorter one first. */
 static void take_over_response(const host *h, uint64_t port) {
     CHECK(port < KH_PORTS);
     uint32_t k = (uint32_t)port % KH_PORTS;
-    uint32_t last = index_at(h, k, KH_RSP_PROD) - 1;
-    int abi = KH_BITS32;
+    shape ring = ring_by_words(h, k);
+    take_over(h, k, slot_offset(ring, index_at(h, k, KH_RSP_PROD) - 1), layouts[ring.abi].response);
     take_over(h, k, KH_RSP_PROD, 4);
-    while (abi > KH_BITS64 && !is_same_but(h, k, slot_offset(&layouts[abi], last), layouts[abi].response))
-        abi--;
-    take_over(h, k, slot_offset(&layouts[abi], last), layouts[abi].response);
-    responses[abi]++;
+    count_response(ring);
 }
 
 static void turn_on_any_memory(host *h) {
@@ -381,8 +414,10 @@ static void complete_on_any_memory(host *h) {
     uint32_t number = kh_complete(memory_of(h), h->at[RINGS], h->bytes[RINGS], port, tag, serial, (int32_t)below(3) - 1,
                                   words(h, COMPLETED));
     count(h, CALL_COMPLETE, number);
-    if (number == KH_OK)
+    if (number == KH_OK) {
+        CHECK(port < KH_PORTS && tag < slots_in(ring_by_words(h, port % KH_PORTS)));
         take_over_response(h, words(h, COMPLETED)[KH_DONE_PORT]);
+    }
     check_kept(h, number, 1 << MEMORY | 1 << COMPLETED);
 }
 
@@ -419,7 +454,7 @@ static void any_calls_on_any_memory(host *h) {
             scribble_memory(h);
         for (uint32_t port = 0; port < KH_PORTS; port++)
             h->books[port].taken = below(8);
-        guest_writes(h, below(KH_PORTS));
+        guest_writes(h, below(KH_PORTS), false);
         wrong = lend_wrongly(h);
         remember(h);
         choices[below(COUNT_OF(choices))](h);

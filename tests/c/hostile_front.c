@@ -117,7 +117,7 @@ static void backend_writes(const host *h) {
     if (one_in(2))
         any_response(h);
     if (one_in(8)) {
-        ahead = below(KH_SLOTS + 2);
+        ahead = below(KH_PAGE_SLOTS + 2);
         set_page_index(h, KH_RSP_PROD, h->front.rsp_cons + ahead);
     }
     if (one_in(40))
@@ -128,7 +128,8 @@ static void backend_writes(const host *h) {
 
 /* Another length for one call, once in a while. */
 static bool lend_wrongly(host *h) {
-    static const size_t lengths[] = {0, 1, 64, KH_RING_BYTES - 1, KH_RING_BYTES + 1, 2 * KH_RING_BYTES};
+    static const size_t lengths[] = {
+        0, 1, 64, KH_GUEST_PAGE_BYTES - 1, KH_GUEST_PAGE_BYTES + 1, 2 * KH_GUEST_PAGE_BYTES};
     if (!one_in(64))
         return false;
     resize(h, PAGE, lengths[below(COUNT_OF(lengths))]);
@@ -156,7 +157,7 @@ static void any_calls_from_a_fresh_guest(host *h) {
         wrong = lend_wrongly(h);
         call_any(h, i / 256);
         if (wrong)
-            resize(h, PAGE, KH_RING_BYTES);
+            resize(h, PAGE, KH_GUEST_PAGE_BYTES);
     }
     end_counts();
 }
@@ -234,7 +235,7 @@ static void any_calls_on_any_memory(host *h) {
         wrong = lend_wrongly(h);
         (one_in(2) ? put_on_any_memory : collect_on_any_memory)(h);
         if (wrong)
-            resize(h, PAGE, KH_RING_BYTES);
+            resize(h, PAGE, KH_GUEST_PAGE_BYTES);
         *guest_memory(h) = right;
     }
     end_counts();

@@ -22,12 +22,14 @@ static const char *const disk_nodes[DISKS] = {
     "1:w 2:1 3:1 4:1 5:0 6:4096 7:2008",
 };
 
+/* Two guests to each layout and each number of a ring's pages, and to each disk. */
 static const struct {
     enum disk disk;
     bool is_32_bit;
+    uint32_t pages;
 } guest_of[GUESTS] = {
-    {FULL, false}, {READ_ONLY, true},  {PLAIN, false}, {COARSE, true},
-    {FULL, true},  {READ_ONLY, false}, {PLAIN, true},  {COARSE, false},
+    {FULL, false, 1}, {READ_ONLY, true, 2},  {PLAIN, false, 2}, {COARSE, true, 1},
+    {FULL, true, 2},  {READ_ONLY, false, 1}, {PLAIN, true, 1},  {COARSE, false, 2},
 };
 
 /* Frames 0 to 15 are granted for read and write, but for this one. */

@@ -20,8 +20,8 @@ static void layout_of_xen_headers(host *h) {
 static void layout_protocol_name(host *h) {
     CHECK_EQ(OPEN_NODES(h, 0, USUAL_NODES " 8:" XEN_IO_PROTO_ABI_X86_64), KH_OK);
     CHECK_EQ(OPEN_NODES(h, 1, USUAL_NODES " 8:" XEN_IO_PROTO_ABI_X86_32), KH_OK);
-    CHECK_EQ(h->books[0].abi, KH_BITS64);
-    CHECK_EQ(h->books[1].abi, KH_BITS32);
+    CHECK_EQ(h->books[0].ring.abi, KH_BITS64);
+    CHECK_EQ(h->books[1].ring.abi, KH_BITS32);
     CHECK_EQ(strcmp(XEN_IO_PROTO_ABI_NATIVE, layouts[KH_BITS64].protocol), 0);
 }
 

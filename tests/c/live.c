@@ -1,21 +1,29 @@
 /*
- * The listing of docs/HOST.md, run: over live pages it leaves what a host leaves that lends the pages themselves, and
- * answers alike, whatever guests of both layouts publish. One thread; the order of two is for host/tests/wakeup.rs.
+ * The listing of docs/HOST.md, run: over live pages it leaves what a host leaves that lends the rings themselves, and
+ * answers alike, whatever guests of both layouts publish in rings of one page and of two. The pages of a ring are no
+ * neighbours, nor in order. One thread; the order of two is for host/tests/wakeup.rs.
  */
 #include "rules.c" /* the listing */
 
 #include <stdio.h>
 #include <stdlib.h>
 
-enum { STEPS = 400000, PLANS = KH_PORTS * KH_TAGS };
+enum { STEPS = 400000, PLANS = KH_PORTS * KH_TAGS, LIVE_PAGES = KH_PORTS * KH_RING_PAGES };
 
-static uint32_t pages[KH_PORTS * PAGE_WORDS]; /* the guests' */
-static uint32_t lent[KH_PORTS * PAGE_WORDS];  /* the same, of the host that lends them */
+static uint32_t pages[LIVE_PAGES][PAGE_WORDS]; /* the guests' */
+static uint32_t lent[KH_PORTS * SHARE_WORDS];  /* the same, of the host that lends them */
 static kh_memory lender;
+
+/* What a port's guest is like, by the last opening: closed ports have one too. */
+static struct {
+    uint32_t pages;
+    size_t slot_bytes;
+} guests[KH_PORTS];
 
 static kh_turned plans[PLANS]; /* in flight, or completed before */
 static uint32_t published[KH_PORTS];
-static unsigned long came[4], opened[2], relaid, refused, drawn_back;
+static unsigned long came[4], opened[KH_RING_PAGES][2], reshaped, refused, drawn_back;
+static uint32_t most[KH_RING_PAGES];                 /* in flight on a port, by its pages */
 static kh_meter counted[KH_PORTS], billed[KH_PORTS]; /* by this file; by the listing, taken from time to time */
 
 static uint64_t state = UINT64_C(0x6B65726E656C6861);
@@ -25,17 +33,30 @@ static uint32_t below(uint32_t bound) {
     return (uint32_t)(state >> 33) % bound;
 }
 
+/* Where a guest's page is: the second ones come first, and backwards. */
+static uint32_t *page_of(uint32_t port, size_t page) {
+    return pages[page == 0 ? KH_PORTS + port : KH_PORTS - 1 - port];
+}
+
+static bool same_pages(void) {
+    for (uint32_t i = 0; i < LIVE_PAGES; i++)
+        if (memcmp(page_of(i / KH_RING_PAGES, i % KH_RING_PAGES), lent + PAGE_WORDS * i, KH_PAGE_BYTES) != 0)
+            return false;
+    return true;
+}
+
 static void same(const char *what, bool holds) {
-    if (!holds || memcmp(pages, lent, sizeof pages) != 0) {
+    if (!holds || !same_pages()) {
         printf("tests/c/live.c: %s: %s\n", what, holds ? "the pages differ" : "the answers differ");
         exit(1);
     }
 }
 
-/* ---- the guests, whose writes reach both pages */
+/* ---- the guests, whose writes reach both rings */
 
 static void guest_writes(uint32_t port, size_t word, uint32_t value) {
-    pages[PAGE_WORDS * port + word] = lent[PAGE_WORDS * port + word] = htole32(value);
+    lent[SHARE_WORDS * port + word] = htole32(value);
+    page_of(port, word / PAGE_WORDS)[word % PAGE_WORDS] = htole32(value);
 }
 
 /*
@@ -43,7 +64,8 @@ static void guest_writes(uint32_t port, size_t word, uint32_t value) {
  * word that the index goes to is half of the id.
  */
 static void guest_requests(uint32_t port, uint32_t index) {
-    size_t at = slot_word(&ports[port], index), end = at + WORD(ports[port].slot_bytes);
+    size_t slot_bytes = guests[port].slot_bytes;
+    size_t at = WORD(KH_HEADER_BYTES + slot_bytes * (index % (32 * guests[port].pages))), end = at + WORD(slot_bytes);
     bool rubbish = below(2) == 0;
     for (size_t word = at; word < end; word++)
         guest_writes(port, word, rubbish ? below(UINT32_MAX) : 0);
@@ -102,12 +124,19 @@ static void bill(uint32_t port) {
     billed[port].not_supported += meter.not_supported;
 }
 
+static void note_in_flight(uint32_t port) {
+    uint32_t in_flight = ports[port].req_cons - ports[port].rsp_prod, *noted = &most[guests[port].pages - 1];
+    if (*noted < in_flight)
+        *noted = in_flight;
+}
+
 static void turn_both(void) {
     kh_turned here = host_turn(), there = lent_turn();
     same("turn", here.kind == there.kind && here.port == there.port && here.reason == there.reason &&
                      here.notify == there.notify && same_plan(&here.plan, &there.plan));
     came[here.kind]++;
     counted[here.port].taken += here.kind == KH_STARTED || here.kind == KH_ANSWERED;
+    note_in_flight(here.port);
     if (here.kind == KH_ANSWERED)
         count_status(here.port, here.status);
     if (here.kind == KH_STARTED)
@@ -126,21 +155,32 @@ static void complete_both(const kh_turned *turned, int32_t result) {
         count_status(turned->port, kh_read_completion(answer).status);
 }
 
+/* A guest sets its ring up. The second half of its share, which a ring of one page has no part in, is rubbish. */
+static void guest_begins(uint32_t port) {
+    for (size_t i = 0; i < PAGE_WORDS; i++) {
+        guest_writes(port, i, i == WORD(KH_REQ_EVENT) || i == WORD(KH_RSP_EVENT));
+        guest_writes(port, PAGE_WORDS + i, below(UINT32_MAX));
+    }
+    published[port] = 0;
+}
+
 static void open_both(uint32_t port) {
     static const char *const protocols[] = {"x86_64-abi", "x86_32-abi"};
-    uint8_t sheet[] = "\x04\x01\0\x01\0\x06\0\x03\0\x07\0\x04\0\x08\0\x0A\0w5122008PROTOCOL..";
-    uint32_t abi = below(2);
-    size_t slot_bytes = ports[port].slot_bytes;
-    memcpy(sheet + sizeof sheet - 11, protocols[abi], 10);
-    if (ports[port].live == NULL) { /* the guest sets its page up */
-        for (size_t i = 0; i < PAGE_WORDS; i++)
-            guest_writes(port, i, i == WORD(KH_REQ_EVENT) || i == WORD(KH_RSP_EVENT));
-        published[port] = 0;
-    }
-    uint32_t here = host_open(port, sheet, sizeof sheet - 1, pages + PAGE_WORDS * port);
+    uint8_t sheet[] = "\x05\x01\0\x01\0\x06\0\x03\0\x07\0\x04\0\x08\0\x0A\0\x09\0\x01\0w5122008PROTOCOL..#";
+    uint32_t abi = below(2), order = below(2), slot_bytes = abi == 0 ? 112 : 108;
+    volatile uint32_t *live[] = {page_of(port, 0), order == 0 ? NULL : page_of(port, 1)};
+    memcpy(sheet + sizeof sheet - 12, protocols[abi], 10);
+    sheet[sizeof sheet - 2] = (uint8_t)('0' + order);
+    if (ports[port].pages == 0)
+        guest_begins(port);
+    uint32_t here = host_open(port, sheet, sizeof sheet - 1, live);
     same("open", here == kh_open(&lender, port, sheet, sizeof sheet - 1));
-    opened[abi] += here == KH_OK;
-    relaid += slot_bytes != 0 && slot_bytes != ports[port].slot_bytes;
+    if (here != KH_OK)
+        return;
+    opened[order][abi]++;
+    reshaped += guests[port].slot_bytes != slot_bytes || guests[port].pages != order + 1;
+    guests[port].slot_bytes = slot_bytes;
+    guests[port].pages = order + 1;
 }
 
 /*
@@ -151,7 +191,7 @@ static void draw_back(uint32_t port) {
     uint32_t legal = published[port], back = below(3);
     guest_publishes(port, back == 0 ? legal + 1000 : legal - back);
     turn_both();
-    if (ports[port].live == NULL || ports[port].broken)
+    if (ports[port].pages == 0 || ports[port].broken)
         return;
     for (uint32_t i = back == 0 ? ports[port].req_cons : legal - back; i != legal; i++)
         guest_requests(port, i);
@@ -192,11 +232,14 @@ int main(void) {
     for (uint32_t port = 0; port < KH_PORTS; port++)
         bill(port);
     same("meters", memcmp(billed, counted, sizeof billed) == 0);
-    printf("     %d steps: idle %lu, started %lu, answered %lu, overrun %lu, opened 64-bit %lu, 32-bit %lu, "
-           "in another layout than before %lu, completions refused %lu, drawn back %lu\n",
-           STEPS, came[KH_IDLE], came[KH_STARTED], came[KH_ANSWERED], came[KH_OVERRUN], opened[KH_BITS64],
-           opened[KH_BITS32], relaid, refused, drawn_back);
+    printf("     %d steps: idle %lu, started %lu, answered %lu, overrun %lu; opened with one page 64-bit %lu, 32-bit "
+           "%lu, with two %lu, %lu, in another shape than before %lu; most in flight %u and %u; completions refused "
+           "%lu, drawn back %lu\n",
+           STEPS, came[KH_IDLE], came[KH_STARTED], came[KH_ANSWERED], came[KH_OVERRUN], opened[0][0], opened[0][1],
+           opened[1][0], opened[1][1], reshaped, most[0], most[1], refused, drawn_back);
     bool all = came[KH_IDLE] && came[KH_STARTED] && came[KH_ANSWERED] && came[KH_OVERRUN];
-    bool both = opened[KH_BITS64] > KH_PORTS && opened[KH_BITS32] > KH_PORTS && relaid;
-    return all && both && refused && drawn_back ? 0 : 1;
+    bool each = reshaped > KH_PORTS && most[0] == 32 && most[1] > 32;
+    for (int i = 0; i < 4; i++)
+        each = each && opened[i / 2][i % 2] > KH_PORTS;
+    return all && each && refused && drawn_back ? 0 : 1;
 }

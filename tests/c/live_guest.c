@@ -24,7 +24,7 @@ enum { STEPS = 200000, IDS = 40 };
 
 struct side {
     kh_memory memory;
-    uint32_t rings[KH_PORTS * PAGE_WORDS]; /* port 0 has the guest's page */
+    uint32_t rings[WORD(KH_RINGS_BYTES)]; /* port 0 has the guest's page */
 };
 
 static struct side live, lent;
@@ -75,7 +75,7 @@ static void put_both(void) {
     bool notify = false;
     any_request(request);
     uint32_t here = front_put(&front, request, &notify);
-    uint32_t there = kh_guest_put(&guest, (uint8_t *)lent.rings, KH_RING_BYTES, request, answer);
+    uint32_t there = kh_guest_put(&guest, (uint8_t *)lent.rings, KH_GUEST_PAGE_BYTES, request, answer);
     same("put", here == there && notify == (answer[KH_PUT_NOTIFY] != 0));
     put[here]++;
     notified += notify;
@@ -84,7 +84,7 @@ static void put_both(void) {
 static void collect_both(void) {
     uint64_t here[KH_COLLECT_WORDS] = {0}, there[KH_COLLECT_WORDS] = {0};
     uint32_t refusal = front_collect(&front, here);
-    uint32_t due = kh_guest_collect(&guest, (uint8_t *)lent.rings, KH_RING_BYTES, there);
+    uint32_t due = kh_guest_collect(&guest, (uint8_t *)lent.rings, KH_GUEST_PAGE_BYTES, there);
     same("collect", refusal == due && memcmp(here, there, sizeof here) == 0);
     collected[refusal == KH_OK ? here[KH_COLLECT_FOUND] : refusal]++;
 }
@@ -142,7 +142,7 @@ static void begin(void) {
     memset(&lent, 0, sizeof lent);
     memset(&live, 0xA5, sizeof live);
     memset(&live.memory, 0, sizeof live.memory);
-    memset(live.rings + PAGE_WORDS, 0, sizeof live.rings - KH_RING_BYTES);
+    memset(live.rings + PAGE_WORDS, 0, sizeof live.rings - KH_GUEST_PAGE_BYTES);
     memset(&guest, 0, sizeof guest);
     memset(held, 0, sizeof held);
     memset(grants, KH_GRANT_READ_WRITE, sizeof grants);

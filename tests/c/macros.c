@@ -10,8 +10,12 @@ static struct {
 
 /* ---- the guest's half */
 
-static void open_front(uint32_t port, void *page) {
-    XEN_FRONT_RING_INIT(&rings[port].front, (blkif_sring_t *)page, RING_BYTES);
+static uint32_t ring_bytes(uint32_t port) {
+    return KH_PAGE_BYTES * guest_of[port].pages;
+}
+
+static void open_front(uint32_t port, void *ring) {
+    XEN_FRONT_RING_INIT(&rings[port].front, (blkif_sring_t *)ring, ring_bytes(port));
 }
 
 static void fill_request(blkif_request_t *request, uint32_t port, uint32_t number) {
@@ -50,12 +54,16 @@ static uint32_t outstanding(uint32_t port) {
     return rings[port].front.req_prod_pvt - rings[port].front.rsp_cons;
 }
 
+static uint32_t slots(uint32_t port) {
+    return RING_SIZE(&rings[port].front);
+}
+
 static uint32_t collect(uint32_t port, response *to) {
     blkif_front_ring_t *front = &rings[port].front;
     RING_IDX produced = front->sring->rsp_prod, first = front->rsp_cons;
     xen_rmb();
     if (RING_RESPONSE_PROD_OVERFLOW(front, produced))
-        return RING_SLOTS + 1;
+        return MOST_SLOTS + 1;
     for (; front->rsp_cons != produced; front->rsp_cons++) {
         blkif_response_t copy;
         RING_COPY_RESPONSE(front, front->rsp_cons, &copy);
@@ -77,8 +85,8 @@ static bool ask(uint32_t port, uint32_t later) {
 
 /* ---- the back end's half */
 
-static void open_back(uint32_t port, void *page) {
-    BACK_RING_INIT(&rings[port].back, (blkif_sring_t *)page, RING_BYTES);
+static void open_back(uint32_t port, void *ring) {
+    BACK_RING_INIT(&rings[port].back, (blkif_sring_t *)ring, ring_bytes(port));
 }
 
 static bool take(uint32_t port, uint32_t *number) {
@@ -112,4 +120,4 @@ const halves as_i386 =
 #else
 const halves as_compiled =
 #endif
-    {open_front, put_request, push, collect, ask, outstanding, open_back, take, respond, rest};
+    {open_front, put_request, push, collect, ask, outstanding, slots, open_back, take, respond, rest};

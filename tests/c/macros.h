@@ -7,7 +7,7 @@
 
 #include "kinds.h"
 
-enum { RING_BYTES = 4096, RING_SLOTS = 32 };
+enum { SHARE_BYTES = 8192, MOST_SLOTS = 64 };
 
 typedef struct {
     uint64_t id;
@@ -17,16 +17,17 @@ typedef struct {
 
 typedef struct {
     /* The guest's. */
-    void (*open_front)(uint32_t port, void *page);
+    void (*open_front)(uint32_t port, void *ring);    /* of as many pages as the guest has */
     bool (*put)(uint32_t port, uint32_t number);      /* a request; false: no room for it */
     bool (*push)(uint32_t port);                      /* publishes what was put; true: notify the back end */
-    uint32_t (*collect)(uint32_t port, response *to); /* how many came; above RING_SLOTS: more than there can be, and
+    uint32_t (*collect)(uint32_t port, response *to); /* how many came; above MOST_SLOTS: more than there can be, and
                                                          none was read */
     bool (*ask)(uint32_t port, uint32_t later); /* to be notified of the next, or so much later; true: it is here */
     uint32_t (*outstanding)(uint32_t port);
+    uint32_t (*slots)(uint32_t port); /* of the ring */
 
     /* The back end's. */
-    void (*open_back)(uint32_t port, void *page);
+    void (*open_back)(uint32_t port, void *ring);
     bool (*take)(uint32_t port, uint32_t *number);         /* the next request; false: there is none */
     bool (*respond)(uint32_t port, const response *given); /* true: notify the guest */
     bool (*rest)(uint32_t port);                           /* asks to be notified; true: a request is here */

@@ -112,7 +112,7 @@ static void rule_15_04_idle(host *h) {
 static void rule_15_04_overrun(host *h) {
     BEGIN(h, USUAL_NODES);
     START(h, 0, 2);
-    set_index(h, 0, KH_REQ_PROD, 33);
+    set_index(h, 0, KH_REQ_PROD, slots_of(h, 0) + 1);
     CHECK_EQ(SERVE(h, 0), KH_OVERRUN);
     check_meter(h, 0, 2, 0, 0, 0);
 }
@@ -156,7 +156,7 @@ static void refuse_completions(host *h) {
     } lines[] = {
         {KH_RINGS_BYTES - 1, 0, 3, 3, 1}, {0, 0, 3, 3, 1},
         {KH_RINGS_BYTES, 8, 3, 3, 2},     {KH_RINGS_BYTES, UINT32_MAX, 3, 3, 2},
-        {KH_RINGS_BYTES, 1, 3, 3, 4},     {KH_RINGS_BYTES, 0, 32, 3, 6},
+        {KH_RINGS_BYTES, 1, 3, 3, 4},     {KH_RINGS_BYTES, 0, 64, 3, 6},
         {KH_RINGS_BYTES, 0, 4, 3, 6},     {KH_RINGS_BYTES, 0, 3, 4, 6},
     };
     for (size_t i = 0; i < COUNT_OF(lines); i++) {
@@ -439,6 +439,6 @@ int main(void) {
         TEST(rule_15_11_any_words_of_a_completion),
         TEST(rule_15_11_nothing_else_is_written),
     };
-    int failed = run_in_both_layouts(calls, COUNT_OF(calls));
+    int failed = run_in_every_shape(calls, COUNT_OF(calls));
     return run_tests(any_words, COUNT_OF(any_words)) | failed;
 }

@@ -1,7 +1,7 @@
 /*
- * Guests in processes of their own, half of them 32-bit programs, that share their ring pages with this host: the
- * listing of docs/HOST.md, over the library. Whoever has nothing to do sleeps until it is notified. So a wake-up that
- * is lost leaves both sides asleep, and the host's patience runs out.
+ * Guests in processes of their own, half of them 32-bit programs and half with rings of two pages, that share their
+ * ring pages with this host: the listing of docs/HOST.md, over the library. Whoever has nothing to do sleeps until it
+ * is notified. So a wake-up that is lost leaves both sides asleep, and the host's patience runs out.
  *
  *     processes GUEST32 GUEST64 PORTS [DEAF]
  *
@@ -80,10 +80,12 @@ static kh_turned plans[KH_PORTS * KH_TAGS];
 static uint32_t in_flight;
 
 static void open_port(uint32_t port) {
-    sheet s = sheet_for(guest_of[port].is_32_bit ? KH_BITS32 : KH_BITS64, disk_nodes[guest_of[port].disk]);
+    shape ring = {guest_of[port].is_32_bit ? KH_BITS32 : KH_BITS64, guest_of[port].pages};
+    volatile uint32_t *live[KH_RING_PAGES] = {pages + SHARE_WORDS * port, pages + SHARE_WORDS * port + PAGE_WORDS};
+    sheet s = sheet_for(ring, disk_nodes[guest_of[port].disk]);
     memset(grants + KH_PORT_GRANTS * port, KH_GRANT_READ_WRITE, 16);
     grants[KH_PORT_GRANTS * port + FRAME_TO_READ] = KH_GRANT_READ;
-    CHECK_EQ(host_open(port, s.bytes, s.length, pages + PAGE_WORDS * port), KH_OK);
+    CHECK_EQ(host_open(port, s.bytes, s.length, live), KH_OK);
 }
 
 /* Ends one of the plans in flight, not the oldest first. */
@@ -129,7 +131,7 @@ static void run_host(int bell) {
     size_t count = sizeof names;
     while (running.failures == 0 && sleep_until_notified(bell, names, &count)) {
         for (size_t i = 0; i < count; i++)
-            if (ports[names[i]].live == NULL)
+            if (ports[names[i]].pages == 0)
                 open_port(names[i]);
         bells += count;
         count = sizeof names;
@@ -145,7 +147,7 @@ static void check_end(void) {
             continue;
         end_guest(port);
         CHECK_EQ(guests[port].taken, MOST_REQUESTS);
-        CHECK_EQ(le32toh(pages[PAGE_WORDS * port + WORD(KH_RSP_PROD)]), MOST_REQUESTS);
+        CHECK_EQ(le32toh(pages[SHARE_WORDS * port + WORD(KH_RSP_PROD)]), MOST_REQUESTS);
         CHECK_EQ(host_close(port), KH_OK);
     }
 }
@@ -174,7 +176,7 @@ int main(int words, char **word) {
     close(bell[1]);
     run_host(bell[0]);
     check_end();
-    printf("     %d requests of %d kinds by each guest, %d wraps: the host notified %lu times, guests %lu\n",
-           MOST_REQUESTS, KINDS, MOST_REQUESTS / KH_SLOTS, bells, notifications);
+    printf("     %d requests of %d kinds by each guest, %d wraps or %d: the host notified %lu times, guests %lu\n",
+           MOST_REQUESTS, KINDS, MOST_REQUESTS / KH_PAGE_SLOTS, MOST_REQUESTS / KH_TAGS, bells, notifications);
     return running.failures != 0;
 }

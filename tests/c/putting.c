@@ -23,7 +23,7 @@ static const uint32_t operations[] = {KH_READ, KH_WRITE, KH_BARRIER, KH_FLUSH, K
 /* Puts the words as they stand, into a page full of rubbish, and ends the request where it was put. */
 static uint32_t do_judge_words(host *h) {
     uint32_t number, index = h->front.rsp_cons;
-    memset(h->at[PAGE], 0xFF, KH_RING_BYTES);
+    memset(h->at[PAGE], 0xFF, KH_GUEST_PAGE_BYTES);
     set_page_index(h, KH_RSP_PROD, index);
     number = do_put(h);
     if (number == KH_OK) {
@@ -39,25 +39,26 @@ static uint32_t do_judge_words(host *h) {
 /* ---- refusals 1, 31 and 32 */
 
 static void refusal_01_wrong_length(host *h) {
-    static const size_t lengths[] = {0, 1, KH_RING_BYTES - 1, KH_RING_BYTES + 1, 2 * KH_RING_BYTES, KH_RINGS_BYTES};
+    static const size_t lengths[] = {
+        0, 1, KH_GUEST_PAGE_BYTES - 1, KH_GUEST_PAGE_BYTES + 1, 2 * KH_GUEST_PAGE_BYTES, KH_RINGS_BYTES};
     write_request(h, KH_READ, FIRST_ID, 1);
     for (size_t i = 0; i < COUNT_OF(lengths); i++) {
         resize(h, PAGE, lengths[i]); /* 0 is a null pointer */
         CHECK_EQ(PUT(h), 1);
     }
-    resize(h, PAGE, KH_RING_BYTES);
+    resize(h, PAGE, KH_GUEST_PAGE_BYTES);
     CHECK_EQ(kh_guest_put(guest_memory(h), h->at[PAGE], 0, words(h, REQUEST), words(h, PUT_ANSWER)), 1);
     CHECK_EQ(PUT(h), KH_OK);
 }
 
 static void refusal_01_before_31_32_33(host *h) {
     BEGIN_FRONT(h, 0);
-    PUT_READS(h, 0, KH_SLOTS - 1);
+    PUT_READS(h, 0, KH_PAGE_SLOTS - 1);
     for (int full = 0; full < 2; full++) {
-        resize(h, PAGE, KH_RING_BYTES - 1);
+        resize(h, PAGE, KH_GUEST_PAGE_BYTES - 1);
         CHECK_EQ(ASK(h, KH_READ, 0, 1), 1);
         CHECK_EQ(ASK(h, 4, 100, 1), 1);
-        resize(h, PAGE, KH_RING_BYTES);
+        resize(h, PAGE, KH_GUEST_PAGE_BYTES);
         CHECK_EQ(ASK(h, KH_READ, 0, 1), full ? 31 : 32);
         CHECK_EQ(ASK(h, 4, 100, 1), full ? 31 : 33);
         if (!full)
@@ -66,9 +67,9 @@ static void refusal_01_before_31_32_33(host *h) {
 }
 
 static void refusal_31_ring_full(host *h) {
-    for (unsigned rounds = 0; rounds < 2 * KH_SLOTS; rounds += 7) {
+    for (unsigned rounds = 0; rounds < 2 * KH_PAGE_SLOTS; rounds += 7) {
         BEGIN_FRONT(h, rounds);
-        PUT_READS(h, 1, KH_SLOTS - 1);
+        PUT_READS(h, 1, KH_PAGE_SLOTS - 1);
         CHECK_EQ(ASK(h, KH_FLUSH, 32, 0), KH_OK);
         CHECK_EQ(ASK(h, KH_FLUSH, 33, 0), 31);
         CHECK_EQ(ASK(h, KH_READ, 34, 1), 31);
@@ -81,8 +82,8 @@ static void refusal_31_ring_full(host *h) {
 /* Responses that wait in the page make no room: they are not collected yet. */
 static void refusal_31_responses_waiting(host *h) {
     BEGIN_FRONT(h, 3);
-    PUT_READS(h, 1, KH_SLOTS);
-    for (uint64_t id = 1; id <= KH_SLOTS; id++)
+    PUT_READS(h, 1, KH_PAGE_SLOTS);
+    for (uint64_t id = 1; id <= KH_PAGE_SLOTS; id++)
         respond(h, id, KH_READ, 0);
     CHECK_EQ(ASK(h, KH_READ, 100, 1), 31);
     CHECK_EQ(COLLECT(h), KH_OK);
@@ -91,7 +92,7 @@ static void refusal_31_responses_waiting(host *h) {
 
 static void refusal_31_before_32_33(host *h) {
     BEGIN_FRONT(h, 0);
-    PUT_READS(h, 1, KH_SLOTS);
+    PUT_READS(h, 1, KH_PAGE_SLOTS);
     CHECK_EQ(ASK(h, KH_READ, 1, 1), 31);
     CHECK_EQ(ASK(h, KH_READ, 100, 0), 31);
     CHECK_EQ(ASK(h, 4, 1, 12), 31);
@@ -126,11 +127,11 @@ static void refusal_32_id_0(host *h) {
 
 /* Whatever its place among the others, an id is found while it is outstanding, and no longer. */
 static void refusal_32_every_place(host *h) {
-    for (uint64_t ended = 0; ended < KH_SLOTS; ended++) {
+    for (uint64_t ended = 0; ended < KH_PAGE_SLOTS; ended++) {
         BEGIN_FRONT(h, ended % 5);
-        PUT_READS(h, 0, KH_SLOTS);
+        PUT_READS(h, 0, KH_PAGE_SLOTS);
         END_READ(h, ended);
-        for (uint64_t id = 0; id < KH_SLOTS; id++)
+        for (uint64_t id = 0; id < KH_PAGE_SLOTS; id++)
             if (id != ended)
                 CHECK_EQ(ASK(h, KH_WRITE, id, 1), 32);
         CHECK_EQ(ASK(h, KH_WRITE, ended, 1), KH_OK);
@@ -282,7 +283,7 @@ static void check_slot(host *h, const uint8_t *begin, size_t count) {
     uint8_t due[KH_SLOT_BYTES] = {0};
     uint8_t *slot = slot_in(h->at[PAGE], 0);
     memcpy(due, begin, count);
-    memset(h->at[PAGE], 0xFF, KH_RING_BYTES);
+    memset(h->at[PAGE], 0xFF, KH_GUEST_PAGE_BYTES);
     CHECK_EQ(PUT(h), KH_OK);
     CHECK(memcmp(slot, due, sizeof due) == 0);
     CHECK_EQ(page_index(h, KH_REQ_PROD), 1);
@@ -352,8 +353,8 @@ static void slot_of_a_discard(host *h) {
 
 /* By turns of its own index, whatever the page says of it; no other index counts but req_event, for notify alone. */
 static void slots_by_its_own_index(host *h) {
-    for (uint32_t i = 0; i < 5 * KH_SLOTS; i++) {
-        memset(h->at[PAGE], (int)(i % 256), KH_RING_BYTES);
+    for (uint32_t i = 0; i < 5 * KH_PAGE_SLOTS; i++) {
+        memset(h->at[PAGE], (int)(i % 256), KH_GUEST_PAGE_BYTES);
         set_page_index(h, KH_RSP_PROD, i + 3); /* makes no sense, and putting doesn't look */
         PUT_READS(h, FIRST_ID + i, 1);
         CHECK_EQ(page_index(h, KH_REQ_PROD), i + 1);
@@ -391,7 +392,7 @@ static void notify_exactly_at_req_event(host *h) {
 static void notify_once_on_the_way(host *h) {
     BEGIN_FRONT(h, 20);
     set_page_index(h, KH_REQ_EVENT, 20 + 17);
-    for (uint32_t i = 1; i <= KH_SLOTS; i++) {
+    for (uint32_t i = 1; i <= KH_PAGE_SLOTS; i++) {
         PUT_READS(h, i, 1);
         CHECK_EQ(words(h, PUT_ANSWER)[KH_PUT_NOTIFY], i == 17);
     }
@@ -399,24 +400,24 @@ static void notify_once_on_the_way(host *h) {
 
 /* A page has bytes, not words: it may lie at any address. */
 static void page_at_any_address(host *h) {
-    uint8_t *room = lend(KH_RING_BYTES + 8);
+    uint8_t *room = lend(KH_GUEST_PAGE_BYTES + 8);
     uint64_t answer[KH_COLLECT_WORDS];
     for (size_t at = 0; at <= 8; at++) {
         kh_guest guest = {{0}};
         BEGIN_FRONT(h, 0);
-        memset(room, 0, KH_RING_BYTES + 8);
+        memset(room, 0, KH_GUEST_PAGE_BYTES + 8);
         for (uint64_t id = 0; id < 3; id++) {
             CHECK_EQ(ASK(h, KH_WRITE, id, 11), KH_OK);
-            CHECK_EQ(kh_guest_put(&guest, room + at, KH_RING_BYTES, words(h, REQUEST), answer), KH_OK);
+            CHECK_EQ(kh_guest_put(&guest, room + at, KH_GUEST_PAGE_BYTES, words(h, REQUEST), answer), KH_OK);
         }
-        CHECK(memcmp(room + at, h->at[PAGE], KH_RING_BYTES) == 0);
+        CHECK(memcmp(room + at, h->at[PAGE], KH_GUEST_PAGE_BYTES) == 0);
         respond(h, 1, KH_WRITE, KH_OKAY);
-        memcpy(room + at, h->at[PAGE], KH_RING_BYTES);
+        memcpy(room + at, h->at[PAGE], KH_GUEST_PAGE_BYTES);
         CHECK_EQ(COLLECT(h), KH_OK);
-        CHECK_EQ(kh_guest_collect(&guest, room + at, KH_RING_BYTES, answer), KH_OK);
+        CHECK_EQ(kh_guest_collect(&guest, room + at, KH_GUEST_PAGE_BYTES, answer), KH_OK);
         CHECK(memcmp(answer, words(h, COLLECT_ANSWER), sizeof answer) == 0);
     }
-    give_back(room, KH_RING_BYTES + 8);
+    give_back(room, KH_GUEST_PAGE_BYTES + 8);
 }
 
 int main(void) {

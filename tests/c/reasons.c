@@ -444,5 +444,5 @@ int main(void) {
         TEST(reason_29_after_26_27_28),
         TEST(reason_29_no_segments),
     };
-    return run_in_both_layouts(tests, COUNT_OF(tests));
+    return run_in_every_shape(tests, COUNT_OF(tests));
 }

@@ -60,16 +60,25 @@ AT(blkif_sring_t, rsp_prod, KH_RSP_PROD);
 AT(blkif_sring_t, rsp_event, KH_RSP_EVENT);
 AT(blkif_sring_t, ring, KH_HEADER_BYTES);
 SIZE(RING_IDX, 4);
-HOLDS(__CONST_RING_SIZE(blkif, KH_RING_BYTES) == KH_SLOTS);
+HOLDS(__CONST_RING_SIZE(blkif, KH_PAGE_BYTES) == KH_PAGE_SLOTS);
+HOLDS(__CONST_RING_SIZE(blkif, KH_RING_BYTES) == KH_TAGS);
 HOLDS(BLKIF_MAX_SEGMENTS_PER_REQUEST == KH_EXTENTS);
 
-/* The macros find as many slots in a page, and find them there. */
-static inline void check_slots(uint8_t *page) {
+/* The macros find as many slots in a ring of so many pages, and find them there. */
+static inline void check_slots_of(uint8_t *ring, unsigned pages) {
     blkif_front_ring_t front;
-    FRONT_RING_INIT(&front, (blkif_sring_t *)(void *)page, KH_RING_BYTES);
-    CHECK_EQ(RING_SIZE(&front), KH_SLOTS);
-    CHECK_EQ((uint8_t *)RING_GET_REQUEST(&front, 33) - page, KH_HEADER_BYTES + SLOT);
-    CHECK_EQ((uint8_t *)RING_GET_RESPONSE(&front, UINT32_MAX) - page, KH_HEADER_BYTES + 31 * SLOT);
+    unsigned slots = pages * KH_PAGE_SLOTS;
+    FRONT_RING_INIT(&front, (blkif_sring_t *)(void *)ring, pages * KH_PAGE_BYTES);
+    CHECK_EQ(RING_SIZE(&front), slots);
+    for (unsigned i = 0; i < 3 * slots; i++)
+        CHECK_EQ((uint8_t *)RING_GET_REQUEST(&front, i) - ring, KH_HEADER_BYTES + i % slots * SLOT);
+    CHECK_EQ((uint8_t *)RING_GET_RESPONSE(&front, UINT32_MAX) - ring, KH_HEADER_BYTES + (slots - 1) * SLOT);
+}
+
+/* In rings of one page and of two. */
+static inline void check_slots(uint8_t *ring) {
+    check_slots_of(ring, 1);
+    check_slots_of(ring, KH_RING_PAGES);
 }
 
 #endif

@@ -130,6 +130,11 @@ static enum kh_abi abi_of(const char *nodes) {
     return kh_read_abi(s.bytes, s.length);
 }
 
+static uint32_t pages_of(const char *nodes) {
+    sheet s = sheet_of(nodes);
+    return kh_read_pages(s.bytes, s.length);
+}
+
 /* What kh_read_abi says of the sheets that are taken, wherever the protocol stands among the nodes. */
 static void layout_that_a_sheet_asks_for(host *h) {
     static const char *const bits64[] = {USUAL_NODES, USUAL_NODES " 8:x86_64-abi", USUAL_NODES " 9:0",
@@ -144,11 +149,46 @@ static void layout_that_a_sheet_asks_for(host *h) {
         CHECK_EQ(abi_of(bits32[i]), KH_BITS32);
 }
 
-/* Of other bytes it says something too, and looks at none beside them: every byte changed, every length. */
-static void layout_of_any_bytes(host *h) {
-    sheet s = sheet_of(ALL_FEATURES " 8:x86_32-abi 9:0");
+/* The same of kh_read_pages. A sector count that looks like the node is none. */
+static void pages_that_a_sheet_asks_for(host *h) {
+    static const char *const one[] = {USUAL_NODES, USUAL_NODES " 9:0", USUAL_NODES " 8:x86_32-abi",
+                                      ALL_FEATURES " 8:x86_64-abi 9:0", "1:w 6:512 7:1"};
+    static const char *const two[] = {USUAL_NODES " 9:1", "1:r 6:4096 7:0 9:1", USUAL_NODES " 8:x86_32-abi 9:1",
+                                      ALL_FEATURES " 8:x86_64-abi 9:1", ALL_FEATURES " 8:x86_32-abi 9:1"};
+    READ_EACH(h, one, KH_OK);
+    READ_EACH(h, two, KH_OK);
+    for (size_t i = 0; i < COUNT_OF(one); i++)
+        CHECK_EQ(pages_of(one[i]), 1);
+    for (size_t i = 0; i < COUNT_OF(two); i++)
+        CHECK_EQ(pages_of(two[i]), 2);
+}
+
+/* One page or two: as many requests wait as the ring has slots, and one more is too many. */
+static void pages_that_a_port_has(host *h) {
+    static const struct {
+        const char *nodes;
+        uint32_t slots;
+    } lines[] = {{USUAL_NODES, 32},
+                 {USUAL_NODES " 9:0", 32},
+                 {USUAL_NODES " 9:1", 64},
+                 {USUAL_NODES " 8:x86_32-abi", 32},
+                 {USUAL_NODES " 8:x86_32-abi 9:0", 32},
+                 {USUAL_NODES " 8:x86_32-abi 9:1", 64}};
+    for (size_t i = 0; i < COUNT_OF(lines); i++)
+        for (uint32_t more = 0; more < 2; more++) {
+            BEGIN(h, lines[i].nodes);
+            set_index(h, 0, KH_REQ_PROD, lines[i].slots + more);
+            CHECK_EQ(TURN(h), KH_OK);
+            CHECK_EQ(words(h, TURNED)[KH_TURN_KIND] == KH_OVERRUN, more != 0);
+        }
+}
+
+/* Of other bytes they say something too, and look at none beside them: every byte changed, every length. */
+static void layout_and_pages_of_any_bytes(host *h) {
+    sheet s = sheet_of(ALL_FEATURES " 8:x86_32-abi 9:1");
     (void)h;
     CHECK_EQ(kh_read_abi(NULL, 0), KH_BITS64);
+    CHECK_EQ(kh_read_pages(NULL, 0), 1);
     for (size_t length = 1; length <= s.length; length++) {
         uint8_t *lent = lend(length);
         for (size_t at = 0; at < length; at++) {
@@ -156,6 +196,7 @@ static void layout_of_any_bytes(host *h) {
             for (int value = 0; value < 256; value += 5) {
                 lent[at] = (uint8_t)value;
                 CHECK(kh_read_abi(lent, length) <= KH_BITS32);
+                CHECK(kh_read_pages(lent, length) - 1 <= 1);
             }
         }
         give_back(lent, length);
@@ -169,7 +210,10 @@ static void refusal_13_not_a_number(host *h) {
                                         "1:w 6:512 7:00",     "1:w 6:512 7:-1",
                                         "1:w 6:512 7:0x10",   "1:w 6:512 7:1/",
                                         "1:w 6:512 7::",      "1:w 6:512 7:1 9:",
-                                        "1:w 6:512 7:1 9:00", "1:w 6:512 7:18446744073709551616x"};
+                                        "1:w 6:512 7:1 9:00", "1:w 6:512 7:18446744073709551616x",
+                                        "1:w 6:512 7:1 9:01", "1:w 6:512 7:1 9:1x",
+                                        "1:w 6:512 7:1 9:+1", "1:w 6:512 7:1 9:-1",
+                                        "1:w 6:512 7:1 9:x",  "1:w 6:512 7:1 9:000000001"};
     READ_EACH(h, wrong, 13);
     CHECK_EQ(READ_NODES(h, "1:w 6:512 7:0"), KH_OK);
 }
@@ -184,10 +228,18 @@ static void refusal_14_number_not_allowed(host *h) {
                                         "1:w 6:512 7:18446744073709551616",
                                         "1:w 6:512 7:99999999999999999999",
                                         "1:w 6:512 7:100000000000000000000000000000000000000000000000000",
-                                        "1:w 6:512 7:1 9:1",
-                                        "1:w 6:512 7:1 9:18446744073709551616"};
-    static const char *const right[] = {"1:w 6:512 7:1",  "1:w 6:1024 7:1",    "1:w 6:2048 7:1",
-                                        "1:w 6:4096 7:1", "1:w 6:512 7:1 9:0", "1:w 6:512 7:18446744073709551615"};
+                                        "1:w 6:512 7:1 9:2",
+                                        "1:w 6:512 7:1 9:3",
+                                        "1:w 6:512 7:1 9:10",
+                                        "1:w 6:512 7:1 9:11",
+                                        "1:w 6:512 7:1 9:256",
+                                        "1:w 6:512 7:1 9:4294967297", /* 1 modulo 2^32 */
+                                        "1:w 6:512 7:1 9:18446744073709551616",
+                                        "1:w 6:512 7:1 9:18446744073709551617", /* 1 modulo 2^64 */
+                                        "1:w 6:512 7:1 9:100000000000000000001"};
+    static const char *const right[] = {"1:w 6:512 7:1",    "1:w 6:1024 7:1",    "1:w 6:2048 7:1",
+                                        "1:w 6:4096 7:1",   "1:w 6:512 7:1 9:0", "1:w 6:512 7:18446744073709551615",
+                                        "1:w 6:512 7:1 9:1"};
     READ_EACH(h, wrong, 14);
     READ_EACH(h, right, KH_OK);
 }
@@ -305,8 +357,9 @@ static void refusal_13_14_first_body_at_fault(host *h) {
     CHECK_EQ(READ_NODES(h, "1:w 6:x 7:18446744073709551616"), 13);
     CHECK_EQ(READ_NODES(h, "6:1"), 14); /* before 15 */
     CHECK_EQ(READ_NODES(h, "1:w 7:x"), 13);
-    CHECK_EQ(READ_NODES(h, "1:w 6:512 7:1 8:x86_32-abi 9:1"), 14);
-    CHECK_EQ(READ_NODES(h, "1:w 6:512 7:1 8:x86_31-abi 9:1"), 13);
+    CHECK_EQ(READ_NODES(h, "1:w 6:512 7:1 8:x86_32-abi 9:2"), 14);
+    CHECK_EQ(READ_NODES(h, "1:w 6:512 7:1 8:x86_31-abi 9:2"), 13);
+    CHECK_EQ(READ_NODES(h, "1:w 6:513 7:1 9:01"), 14);
 }
 
 static void refusal_15_node_missing(host *h) {
@@ -316,6 +369,7 @@ static void refusal_15_node_missing(host *h) {
     CHECK_EQ(READ_NODES(h, "1:w 6:512"), 15);
     CHECK_EQ(READ_NODES(h, "2:1 3:1 4:1 5:1 8:x86_64-abi 9:0"), 15);
     CHECK_EQ(READ_NODES(h, "8:x86_32-abi"), 15);
+    CHECK_EQ(READ_NODES(h, "1:w 6:512 9:1"), 15);
     CHECK_EQ(READ_NODES(h, "1:w 6:512 7:2008"), KH_OK);
 }
 
@@ -341,7 +395,9 @@ int main(void) {
         TEST(refusal_13_14_first_body_at_fault),
         TEST(refusal_15_node_missing),
         TEST(layout_that_a_sheet_asks_for),
-        TEST(layout_of_any_bytes),
+        TEST(pages_that_a_sheet_asks_for),
+        TEST(pages_that_a_port_has),
+        TEST(layout_and_pages_of_any_bytes),
     };
     return run_tests(tests, COUNT_OF(tests));
 }

@@ -34,20 +34,19 @@ static inline sheet sheet_of(const char *nodes) {
     return s;
 }
 
-/* A sheet from its nodes, and the protocol of a layout where they name none. The 64-bit layout has no need of it. */
-static inline sheet sheet_for(enum kh_abi abi, const char *nodes) {
-    const char *last = strstr(nodes, " 9:");
+/* A sheet from its nodes, and those of a ring's shape where they have neither. Without these it is for a 64-bit guest
+ * and one page. */
+static inline sheet sheet_for(shape ring, const char *nodes) {
     char text[256];
-    if (abi == KH_BITS64 || strstr(nodes, " 8:") != NULL)
+    if (strstr(nodes, " 8:") != NULL || strstr(nodes, " 9:") != NULL)
         return sheet_of(nodes);
-    if (last == NULL)
-        last = nodes + strlen(nodes);
-    snprintf(text, sizeof text, "%.*s 8:%s%s", (int)(last - nodes), nodes, layouts[abi].protocol, last);
+    snprintf(text, sizeof text, "%s%s%s", nodes, ring.abi == KH_BITS32 ? " 8:x86_32-abi" : "",
+             ring.pages == 2 ? " 9:1" : "");
     return sheet_of(text);
 }
 
 static inline uint32_t do_open_nodes(host *h, uint32_t port, const char *nodes) {
-    sheet s = sheet_for(h->abi, nodes);
+    sheet s = sheet_for(h->ring, nodes);
     return do_open(h, port, s.bytes, s.length);
 }
 
@@ -85,16 +84,13 @@ static inline request discard(uint8_t flag, uint64_t start, uint64_t sectors) {
 
 #define FIRST_ID UINT64_C(0x1122334455667788)
 
-/* Puts a request on a port's ring, the bytes that it doesn't use filled with rubbish, and publishes it. */
-static inline void post(const host *h, uint32_t port, request r) {
-    const layout *l = layout_of(h, port);
-    uint32_t index = index_at(h, port, KH_REQ_PROD);
-    uint8_t *slot = slot_of(h, port, index);
+/* The bytes of a slot; those that the request doesn't use are rubbish. */
+static inline void write_slot(uint8_t *slot, const layout *l, uint64_t id, request r) {
     uint8_t *segments = slot + l->segments;
     memset(slot, 0xEE, l->slot);
     slot[0] = r.operation;
     slot[1] = r.n;
-    put(slot + l->id, 8, FIRST_ID + index);
+    put(slot + l->id, 8, id);
     put(slot + l->start, 8, r.start);
     for (int i = 0; i < KH_EXTENTS; i++) {
         put(segments + 8 * i, 4, r.segments[i].frame);
@@ -103,6 +99,12 @@ static inline void post(const host *h, uint32_t port, request r) {
     }
     if (r.operation == KH_DISCARD)
         put(segments, 8, r.sectors);
+}
+
+/* Puts a request on a port's ring and publishes it. */
+static inline void post(const host *h, uint32_t port, request r) {
+    uint32_t index = index_at(h, port, KH_REQ_PROD);
+    write_slot(slot_of(h, port, index), layout_of(h, port), FIRST_ID + index, r);
     set_index(h, port, KH_REQ_PROD, index + 1);
 }
 
@@ -155,6 +157,29 @@ static inline void do_reopen(host *h) {
 
 #define REOPEN(h) MADE_HERE(do_reopen(h))
 
+/*
+ * Port 0 open, with both indices at a value that no test can get to by requests. Their words are those that one
+ * answered request raises from 0 to 1; the pointer would be a third, so it is moved to 1 before.
+ */
+static inline void do_begin_at_index(host *h, uint32_t value) {
+    int found = 0;
+    do_begin(h, USUAL_NODES);
+    set_index(h, 0, KH_REQ_PROD, slots_of(h, 0) + 1);
+    CHECK_EQ(do_serve(h, 0), KH_OVERRUN);
+    do_reopen(h);
+    post(h, 0, transfer(KH_READ, 0, 0));
+    CHECK_EQ(do_serve(h, 0), KH_ANSWERED);
+    for (int i = 0; i < KH_MEMORY_WORDS; i++)
+        if (words(h, MEMORY)[i] == 1 && get(h->before[MEMORY] + 8 * i, 8) == 0) {
+            words(h, MEMORY)[i] = value;
+            found++;
+        }
+    CHECK_EQ(found, 2);
+    h->books[0].taken = h->books[0].answered = value;
+}
+
+#define BEGIN_AT_INDEX(h, value) MADE_HERE(do_begin_at_index(h, value))
+
 /* ---- the run */
 
 typedef struct {
@@ -172,10 +197,10 @@ static inline void on_fault(int number) {
     _exit(written > 0 ? number : 1);
 }
 
-static inline void run_placed(const test *t, enum kh_abi abi, enum placement where) {
+static inline void run_placed(const test *t, shape ring, enum placement where) {
     host h;
     memset(&h, 0, sizeof h);
-    h.abi = abi;
+    h.ring = ring;
     placement = where;
     running.file = NULL;
     reset(&h);
@@ -185,39 +210,39 @@ static inline void run_placed(const test *t, enum kh_abi abi, enum placement whe
 }
 
 /* Runs a test with its buffers in every place. */
-static inline void run_in_each_place(const test *t, enum kh_abi abi) {
+static inline void run_in_each_place(const test *t, shape ring) {
 #ifdef __SANITIZE_ADDRESS__
-    run_placed(t, abi, ON_HEAP);
+    run_placed(t, ring, ON_HEAP);
 #else
     signal(SIGSEGV, on_fault);
-    run_placed(t, abi, AFTER_GUARD);
-    run_placed(t, abi, BEFORE_GUARD);
+    run_placed(t, ring, AFTER_GUARD);
+    run_placed(t, ring, BEFORE_GUARD);
 #endif
 }
 
-/* Runs the tests in the layouts up to the last; a line for each test. */
-static inline int run_up_to(enum kh_abi last, const test *tests, size_t count) {
+/* Runs the tests with so many of the shapes; a line for each test. */
+static inline int run_in_shapes(size_t shape_count, const test *tests, size_t count) {
     int failed = 0;
     setvbuf(stdout, NULL, _IOLBF, 0);
     for (size_t i = 0; i < count; i++) {
         running.name = tests[i].name;
         running.failures = 0;
-        for (int abi = KH_BITS64; abi <= (int)last; abi++)
-            run_in_each_place(&tests[i], (enum kh_abi)abi);
+        for (size_t s = 0; s < shape_count; s++)
+            run_in_each_place(&tests[i], shapes[s]);
         printf("%s %s\n", running.failures == 0 ? "ok  " : "FAIL", tests[i].name);
         failed += running.failures != 0;
     }
     return failed != 0;
 }
 
-/* For tests that open 64-bit ports, or name the protocols of those that they open. */
+/* For tests that open 64-bit ports of one page, or say what those are like that they open. */
 static inline int run_tests(const test *tests, size_t count) {
-    return run_up_to(KH_BITS64, tests, count);
+    return run_in_shapes(1, tests, count);
 }
 
-/* For tests of which every word holds in either layout. */
-static inline int run_in_both_layouts(const test *tests, size_t count) {
-    return run_up_to(KH_BITS32, tests, count);
+/* For tests of which every word holds in either layout, with rings of one page and of two. */
+static inline int run_in_every_shape(const test *tests, size_t count) {
+    return run_in_shapes(COUNT_OF(shapes), tests, count);
 }
 
 #endif

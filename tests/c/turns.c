@@ -1,6 +1,6 @@
 /*
- * Turns and completions: indices and overruns, whose turn it is, plans, tags and serials, results and responses, in
- * both layouts; and ports of both on one backend.
+ * Turns and completions: indices and overruns, whose turn it is, plans, tags and serials, results and responses, for
+ * rings of every shape.
  */
 #include "test.h"
 
@@ -15,34 +15,17 @@ static void begin_at(host *h, unsigned answered, unsigned in_flight) {
     }
 }
 
-/*
- * Port 0 open, with both indices at a value that no test can get to by requests. Their words are those that one
- * answered request raises from 0 to 1; the pointer would be a third, so it is moved to 1 before.
- */
-static void begin_at_index(host *h, uint32_t value) {
-    int found = 0;
-    BEGIN(h, USUAL_NODES);
-    set_index(h, 0, KH_REQ_PROD, 33);
-    CHECK_EQ(SERVE(h, 0), KH_OVERRUN);
-    REOPEN(h);
-    post(h, 0, transfer(KH_READ, 0, 0));
-    CHECK_EQ(SERVE(h, 0), KH_ANSWERED);
-    for (int i = 0; i < KH_MEMORY_WORDS; i++)
-        if (words(h, MEMORY)[i] == 1 && get(h->before[MEMORY] + 8 * i, 8) == 0) {
-            words(h, MEMORY)[i] = value;
-            found++;
-        }
-    CHECK_EQ(found, 2);
-    h->books[0].taken = h->books[0].answered = value;
-}
-
+/* 37 and 38 of a ring of one page, 69 and 70 of one of two. */
 static void line_c_5_r_5(host *h) {
-    static const struct {
+    uint32_t most = h->ring.pages == 2 ? 69 : 37;
+    const struct {
         uint32_t req_prod;
         uint64_t kind;
-    } lines[] = {
-        {6, KH_STARTED}, {37, KH_STARTED}, {38, KH_OVERRUN},         {4, KH_OVERRUN},
-        {0, KH_OVERRUN}, {5, KH_IDLE},     {UINT32_MAX, KH_OVERRUN}, {UINT32_C(5) + (UINT32_C(1) << 31), KH_OVERRUN}};
+    } lines[] = {{6, KH_STARTED},          {37, KH_STARTED},
+                 {most, KH_STARTED},       {most + 1, KH_OVERRUN},
+                 {most + 32, KH_OVERRUN},  {4, KH_OVERRUN},
+                 {0, KH_OVERRUN},          {5, KH_IDLE},
+                 {UINT32_MAX, KH_OVERRUN}, {UINT32_C(5) + (UINT32_C(1) << 31), KH_OVERRUN}};
     for (size_t i = 0; i < COUNT_OF(lines); i++) {
         begin_at(h, 5, 0);
         post(h, 0, transfer(KH_READ, 1, 0));
@@ -52,42 +35,61 @@ static void line_c_5_r_5(host *h) {
 }
 
 static void line_c_5_r_0(host *h) {
+    uint32_t most = h->ring.pages == 2 ? 64 : 32;
     begin_at(h, 0, 5);
     post(h, 0, transfer(KH_READ, 1, 0));
-    set_index(h, 0, KH_REQ_PROD, 32);
+    set_index(h, 0, KH_REQ_PROD, most);
     CHECK_EQ(SERVE(h, 0), KH_STARTED);
     begin_at(h, 0, 5);
-    set_index(h, 0, KH_REQ_PROD, 33);
+    set_index(h, 0, KH_REQ_PROD, most + 1);
     CHECK_EQ(SERVE(h, 0), KH_OVERRUN);
 }
 
+/* With so many in flight, as many more may wait as the ring has slots left; req_prod moved back is an overrun too. */
+static void line_by_in_flight(host *h) {
+    uint32_t slots = slots_in(h->ring), counts[] = {0, 1, 13, 31, 32, slots - 1, slots};
+    for (size_t i = 0; i < COUNT_OF(counts); i++) {
+        for (uint32_t more = 0; more < 2; more++) {
+            begin_at(h, 3, counts[i]);
+            post(h, 0, transfer(KH_READ, 1, 0));
+            set_index(h, 0, KH_REQ_PROD, 3 + slots + more);
+            CHECK_EQ(SERVE(h, 0), more != 0 ? KH_OVERRUN : counts[i] == slots ? KH_IDLE : KH_STARTED);
+        }
+        begin_at(h, 3, counts[i]);
+        set_index(h, 0, KH_REQ_PROD, 2 + counts[i]);
+        CHECK_EQ(SERVE(h, 0), KH_OVERRUN);
+    }
+}
+
 static void line_full_ring_in_flight(host *h) {
-    begin_at(h, 0, 32);
+    uint32_t slots = slots_in(h->ring);
+    begin_at(h, 0, slots);
     CHECK_EQ(SERVE(h, 0), KH_IDLE);
-    set_index(h, 0, KH_REQ_PROD, 33);
+    set_index(h, 0, KH_REQ_PROD, slots + 1);
     CHECK_EQ(SERVE(h, 0), KH_OVERRUN);
 }
 
 static void line_indices_wrap(host *h) {
-    begin_at_index(h, UINT32_MAX);
+    uint32_t last = h->ring.pages == 2 ? 63 : 31;
+    BEGIN_AT_INDEX(h, UINT32_MAX);
     set_index(h, 0, KH_REQ_PROD, UINT32_MAX);
     CHECK_EQ(SERVE(h, 0), KH_IDLE);
     CHECK_EQ(index_at(h, 0, KH_REQ_EVENT), 0);
-    post(h, 0, transfer(KH_READ, 1, 0)); /* slot 31; req_prod becomes 0 */
+    post(h, 0, transfer(KH_READ, 1, 0)); /* the last slot; req_prod becomes 0 */
     CHECK_EQ(index_at(h, 0, KH_REQ_PROD), 0);
     CHECK_EQ(SERVE(h, 0), KH_STARTED);
     CHECK_EQ(words(h, TURNED)[KH_TURN_SERIAL], UINT32_MAX);
     CHECK_EQ(FINISH(h), KH_OK);
     CHECK_EQ(index_at(h, 0, KH_RSP_PROD), 0);
-    CHECK_EQ(get(slot_of(h, 0, 31), 8), FIRST_ID + UINT32_MAX);
+    CHECK_EQ(get(slot_of(h, 0, last), 8), FIRST_ID + UINT32_MAX);
     post(h, 0, transfer(KH_READ, 0, 0)); /* slot 0 */
     CHECK_EQ(SERVE(h, 0), KH_ANSWERED);
     CHECK_EQ(index_at(h, 0, KH_RSP_PROD), 1);
-    begin_at_index(h, UINT32_MAX);
-    set_index(h, 0, KH_REQ_PROD, 31);
+    BEGIN_AT_INDEX(h, UINT32_MAX);
+    set_index(h, 0, KH_REQ_PROD, last);
     CHECK(SERVE(h, 0) != KH_OVERRUN);
-    begin_at_index(h, UINT32_MAX);
-    set_index(h, 0, KH_REQ_PROD, 32);
+    BEGIN_AT_INDEX(h, UINT32_MAX);
+    set_index(h, 0, KH_REQ_PROD, last + 1);
     CHECK_EQ(SERVE(h, 0), KH_OVERRUN);
 }
 
@@ -223,15 +225,16 @@ static void secure_by_the_port_and_its_opening(host *h) {
 }
 
 static void lowest_free_tag_comes_back(host *h) {
-    begin_at(h, 0, 32);
-    CHECK_EQ(COMPLETE(h, 0, 20, 20, 8), KH_OK);
-    CHECK_EQ(COMPLETE(h, 0, 3, 3, 8), KH_OK);
-    for (uint32_t tag = 3; tag <= 20; tag += 17) {
+    uint32_t slots = slots_in(h->ring), freed[] = {3, 20, slots - 1};
+    begin_at(h, 0, slots);
+    for (size_t i = COUNT_OF(freed); i-- > 0;)
+        CHECK_EQ(COMPLETE(h, 0, freed[i], freed[i], 8), KH_OK);
+    for (size_t i = 0; i < COUNT_OF(freed); i++) {
         post(h, 0, transfer(KH_READ, 1, 0));
         CHECK_EQ(SERVE(h, 0), KH_STARTED);
-        CHECK_EQ(words(h, TURNED)[KH_TURN_TAG], tag);
+        CHECK_EQ(words(h, TURNED)[KH_TURN_TAG], freed[i]);
+        CHECK_EQ(words(h, TURNED)[KH_TURN_SERIAL], slots + i);
     }
-    CHECK_EQ(words(h, TURNED)[KH_TURN_SERIAL], 33);
 }
 
 static void stale_completion_of_a_newer_request(host *h) {
@@ -281,7 +284,7 @@ static void results_where_0_is_expected(host *h) {
 static void response_bytes(host *h) {
     static const uint8_t due[16] = {0x88, 0x77, 0x66, 0x55, 0x44, 0x33, 0x22, 0x11, 0, 0, 0xFF, 0xFF, 0, 0, 0, 0};
     static const uint64_t start = UINT64_C(0x99AABBCCDDEEFF00);
-    const layout *l = &layouts[h->abi];
+    const layout *l = &layouts[h->ring.abi];
     BEGIN(h, USUAL_NODES);
     CHECK_EQ(JUDGE(h, transfer(KH_READ, 0, start)), 25);
     CHECK(memcmp(slot_of(h, 0, 0), due, l->response) == 0);
@@ -313,88 +316,6 @@ static void notify_where_rsp_event_is_the_new_index(host *h) {
     }
 }
 
-/* ---- both layouts on one backend */
-
-static enum kh_abi other_than(enum kh_abi abi) {
-    return abi == KH_BITS64 ? KH_BITS32 : KH_BITS64;
-}
-
-/* A port open with every feature in that layout, its protocol named. */
-static void open_in(host *h, uint32_t port, enum kh_abi abi) {
-    char nodes[64];
-    snprintf(nodes, sizeof nodes, "%s 8:%s", ALL_FEATURES, layouts[abi].protocol);
-    CHECK_EQ(OPEN_NODES(h, port, nodes), KH_OK);
-    CHECK_EQ(h->books[port].abi, abi);
-}
-
-/* A write of one sector, with a start and a frame of its own; then a discard; then what is refused. */
-static request nth_request(uint32_t n) {
-    request r = transfer(KH_WRITE, 1, 100 + n);
-    r.segments[0] = (segment){n % 16, 1, 1};
-    if (n % 3 == 1)
-        return discard(0, 200 + n, 1000 + n);
-    return n % 3 == 0 ? r : transfer(KH_WRITE, 12, 0);
-}
-
-static void check_nth_plan(const kh_plan *plan, uint32_t n) {
-    CHECK_EQ(plan->serial, n);
-    CHECK_EQ(plan->start, n % 3 == 0 ? 100 + n : 200 + n);
-    CHECK_EQ(plan->count, n % 3 == 0 ? 1 : 1000 + n);
-    CHECK_EQ(plan->extent_count, n % 3 == 0);
-    CHECK_EQ(plan->extents[0].frame, n % 3 == 0 ? n % 16 : 0);
-}
-
-/* Serves request n of a port, which was posted, and completes it if it starts. */
-static void serve_nth(host *h, uint32_t port, uint32_t n) {
-    uint64_t kind = SERVE(h, port);
-    CHECK_EQ(kind, n % 3 == 2 ? KH_ANSWERED : KH_STARTED);
-    if (kind == KH_STARTED) {
-        kh_plan plan = kh_read_plan(words(h, TURNED));
-        check_nth_plan(&plan, n);
-        CHECK_EQ(FINISH(h), KH_OK);
-    }
-    CHECK_EQ(get(slot_of(h, port, n), 8), FIRST_ID + n);
-}
-
-/* Every second port is of the other layout; all go through two wraps of their rings, and each stays as it is. */
-static void ports_of_both_layouts(host *h) {
-    for (uint32_t port = 0; port < KH_PORTS; port++)
-        open_in(h, port, port % 2 == 0 ? h->abi : other_than(h->abi));
-    for (uint32_t n = 0; n < 2 * KH_SLOTS + 1; n++) {
-        for (uint32_t port = 0; port < KH_PORTS; port++)
-            post(h, port, nth_request(n));
-        for (uint32_t port = 0; port < KH_PORTS; port++)
-            serve_nth(h, port, n);
-    }
-}
-
-/* The other layout from index 0 on, over whatever bytes the first opening left, and then the first again. */
-static void port_reopened_in_the_other_layout(host *h) {
-    enum kh_abi abi = h->abi;
-    for (int opening = 0; opening < 3; opening++) {
-        open_in(h, 0, abi);
-        set_index(h, 0, KH_REQ_PROD, 0);
-        CHECK_EQ(COMPLETE(h, 0, 0, 0, 8), KH_NOT_BUSY);
-        for (uint32_t n = 0; n < KH_SLOTS + 5; n++) {
-            post(h, 0, nth_request(n));
-            serve_nth(h, 0, n);
-        }
-        CHECK_EQ(SERVE(h, 0), KH_IDLE);
-        CHECK_EQ(index_at(h, 0, KH_REQ_EVENT), KH_SLOTS + 6);
-        CHECK_EQ(index_at(h, 0, KH_RSP_PROD), KH_SLOTS + 5);
-        CHECK_EQ(CLOSE(h, 0), KH_OK);
-        abi = other_than(abi);
-    }
-}
-
-/* A close forgets the layout too: memory is as if the port had never been open. */
-static void close_forgets_the_layout(host *h) {
-    open_in(h, 5, h->abi);
-    CHECK_EQ(CLOSE(h, 5), KH_OK);
-    for (int i = 0; i < KH_MEMORY_WORDS; i++)
-        CHECK_EQ(words(h, MEMORY)[i], 0);
-}
-
 static void two_backends_are_apart(host *h) {
     kh_memory other;
     memset(&other, 0, sizeof other);
@@ -407,6 +328,7 @@ int main(void) {
     static const test tests[] = {
         TEST(line_c_5_r_5),
         TEST(line_c_5_r_0),
+        TEST(line_by_in_flight),
         TEST(line_full_ring_in_flight),
         TEST(line_indices_wrap),
         TEST(overrun_breaks_the_port),
@@ -423,10 +345,7 @@ int main(void) {
         TEST(response_bytes),
         TEST(responses_go_by_our_own_index),
         TEST(notify_where_rsp_event_is_the_new_index),
-        TEST(ports_of_both_layouts),
-        TEST(port_reopened_in_the_other_layout),
-        TEST(close_forgets_the_layout),
         TEST(two_backends_are_apart),
     };
-    return run_in_both_layouts(tests, COUNT_OF(tests));
+    return run_in_every_shape(tests, COUNT_OF(tests));
 }

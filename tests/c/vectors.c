@@ -1,6 +1,7 @@
 /*
  * The vectors of tests/vectors, each line of them: what is given goes through the library, and what came of it, in the
- * words of its file, is what is due there. Lines that name no layout are run in both.
+ * words of its file, is what is due there. Lines that name no layout are run in both, and those that name no number of
+ * pages with rings of one and of two.
  */
 #include "test.h"
 
@@ -67,11 +68,11 @@ static unsigned run_file(host *h, const char *path, runner *run) {
     return cases;
 }
 
-/* Once for both places of the buffers, and for both layouts. */
+/* Once for both places of the buffers, and for all shapes. */
 __attribute__((format(printf, 2, 3))) static void print_count(const host *h, const char *format, ...) {
     va_list values;
     va_start(values, format);
-    if (placement != BEFORE_GUARD && h->abi == KH_BITS64)
+    if (placement != BEFORE_GUARD && h->ring.abi == KH_BITS64 && h->ring.pages == 1)
         vprintf(format, values);
     va_end(values);
 }
@@ -145,6 +146,7 @@ static bool run_sheet(host *h, const char *given, text *came) {
     say(came, "%s", port_words(h, 0)[WRITABLE] != 0 ? "writable " : "");
     say_features(h, came);
     say(came, "%s", port_words(h, 0)[LAYOUT] == KH_BITS32 ? "32-bit " : "");
+    say(came, "%s", port_words(h, 0)[PAGES] == SECOND_PAGE ? "two-page " : "");
     say(came, "sector %u sectors %" PRIu64, sector_size(h), port_words(h, 0)[SECTORS]);
     return true;
 }
@@ -276,11 +278,10 @@ static const layout *layout_of_bits(unsigned long bits) {
     return bits == 64 ? &layouts[KH_BITS64] : bits == 32 ? &layouts[KH_BITS32] : NULL;
 }
 
-/* Opens a port with these nodes and the protocol of a layout. */
-static void open_as(host *h, uint32_t port, const char *nodes, const layout *l) {
-    char text[128];
-    snprintf(text, sizeof text, "%s 8:%s", nodes, l->protocol);
-    CHECK_EQ(OPEN_NODES(h, port, text), KH_OK);
+/* Opens a port with these nodes for a ring of that layout and so many pages. */
+static void open_as(host *h, uint32_t port, const char *nodes, const layout *l, uint32_t pages) {
+    sheet s = sheet_for((shape){(enum kh_abi)(l - layouts), pages}, nodes);
+    CHECK_EQ(OPEN(h, port, s.bytes, s.length), KH_OK);
 }
 
 /* The response in a port's first slot. */
@@ -297,7 +298,7 @@ static bool run_record(host *h, const char *given, text *came) {
     size_t count;
     if (l == NULL || *end != ':' || !read_bytes(end + 1, bytes, &count) || count != l->slot)
         return false;
-    open_as(h, 0, "1:w 2:1 3:1 4:1 5:1 6:512 7:18446744073709551615", l);
+    open_as(h, 0, "1:w 2:1 3:1 4:1 5:1 6:512 7:18446744073709551615", l, h->ring.pages);
     memset(h->at[GRANTS], KH_GRANT_READ_WRITE, KH_GRANTS_BYTES);
     memcpy(slot_of(h, 0, 0), bytes, count);
     set_index(h, 0, KH_REQ_PROD, 1);
@@ -367,26 +368,63 @@ static bool run_worked_discard(host *h, const char *given, text *came) {
     return true;
 }
 
-/* C R REQ_PROD = waits SLOT, overrun or nothing. On port 3, with C and R put into its words; each slot asks for the
- * sector of its number. */
+/* Puts C and R of a port into its words, with the lowest tags busy. */
+static void set_indices(host *h, uint32_t port, uint32_t taken, uint32_t answered) {
+    uint32_t in_flight = taken - answered;
+    uint64_t busy = in_flight < KH_TAGS ? (UINT64_C(1) << in_flight) - 1 : UINT64_MAX;
+    port_words(h, port)[CONSUMED] = h->books[port].taken = taken;
+    port_words(h, port)[PRODUCED] = h->books[port].answered = answered;
+    port_words(h, port)[BUSY] = h->books[port].busy = busy;
+}
+
+/* PAGES C R REQ_PROD = waits SLOT, overrun or nothing. On port 3; each slot asks for the sector of its number. */
 static bool run_index(host *h, const char *given, text *came) {
     enum { PORT = 3 };
-    uint64_t n[3], in_flight;
+    uint64_t n[4];
     if (!read_numbers(given, n, COUNT_OF(n)))
         return false;
-    in_flight = (UINT64_C(1) << (uint32_t)(n[0] - n[1])) - 1;
-    CHECK_EQ(OPEN_NODES(h, PORT, USUAL_NODES), KH_OK);
-    for (unsigned slot = 0; slot < KH_SLOTS; slot++)
+    open_as(h, PORT, USUAL_NODES, &layouts[h->ring.abi], (uint32_t)n[0]);
+    for (unsigned slot = 0; slot < slots_of(h, PORT); slot++)
         post(h, PORT, transfer(KH_READ, 1, slot));
-    set_index(h, PORT, KH_REQ_PROD, (uint32_t)n[2]);
-    port_words(h, PORT)[CONSUMED] = h->books[PORT].taken = (uint32_t)n[0];
-    port_words(h, PORT)[PRODUCED] = h->books[PORT].answered = (uint32_t)n[1];
-    port_words(h, PORT)[BUSY] = h->books[PORT].busy = (uint32_t)in_flight;
+    set_index(h, PORT, KH_REQ_PROD, (uint32_t)n[3]);
+    set_indices(h, PORT, (uint32_t)n[1], (uint32_t)n[2]);
     CHECK_EQ(TURN(h), KH_OK);
     if (words(h, TURNED)[KH_TURN_KIND] == KH_STARTED)
         say(came, "waits %" PRIu64, words(h, TURNED)[KH_TURN_START]);
     else
         say(came, "%s", words(h, TURNED)[KH_TURN_KIND] == KH_OVERRUN ? "overrun" : "nothing");
+    return true;
+}
+
+/* Where these bytes stand in a port's share, which has them nowhere else. */
+static unsigned find_in_share(const host *h, uint32_t port, const uint8_t *bytes, unsigned count) {
+    unsigned at = 0, found = KH_RING_BYTES;
+    for (; at + count <= KH_RING_BYTES; at++)
+        if (memcmp(ring(h, port) + at, bytes, count) == 0) {
+            CHECK_EQ(found, KH_RING_BYTES);
+            found = at;
+        }
+    return found;
+}
+
+/* BITS PAGES INDEX = AT. On port 6, with both indices there: where the response to its next request is. */
+static bool run_place(host *h, const char *given, text *came) {
+    enum { PORT = 6 };
+    uint64_t n[3];
+    uint8_t id[8];
+    if (!read_numbers(given, n, COUNT_OF(n)) || layout_of_bits(n[0]) == NULL)
+        return false;
+    open_as(h, PORT, USUAL_NODES, layout_of_bits(n[0]), (uint32_t)n[1]);
+    memset(ring(h, PORT), 0xEE, KH_RING_BYTES);
+    set_indices(h, PORT, (uint32_t)n[2], (uint32_t)n[2]);
+    set_index(h, PORT, KH_REQ_PROD, (uint32_t)n[2]);
+    post(h, PORT, transfer(KH_WRITE, 1, 7));
+    CHECK_EQ(SERVE(h, PORT), KH_STARTED);
+    CHECK_EQ(words(h, TURNED)[KH_TURN_START], 7);
+    memset(slot_of(h, PORT, (uint32_t)n[2]), 0xEE, layout_of(h, PORT)->slot);
+    CHECK_EQ(FINISH(h), KH_OK);
+    put(id, sizeof id, FIRST_ID + n[2]);
+    say(came, "%u", find_in_share(h, PORT, id, sizeof id));
     return true;
 }
 
@@ -422,7 +460,7 @@ static bool run_response(host *h, const char *given, text *came) {
         return false;
     if (rest[end] != '\0' || status > KH_OKAY || status < KH_NOT_SUPPORTED || operation > KH_BARRIER)
         return false;
-    open_as(h, PORT, ALL_FEATURES, l);
+    open_as(h, PORT, ALL_FEATURES, l, h->ring.pages);
     post(h, PORT, transfer(operation, 1, 0));
     put(slot_of(h, PORT, 0) + l->id, 8, id);
     CHECK_EQ(TURN(h), KH_OK);
@@ -436,8 +474,13 @@ static struct {
     runner *run;
     unsigned cases;
 } kinds[] = {
-    {"sheet ", run_worked_sheet, 0}, {"request ", run_worked_request, 0}, {"discard ", run_worked_discard, 0},
-    {"index ", run_index, 0},        {"result ", run_result, 0},          {"response ", run_response, 0},
+    {"sheet ", run_worked_sheet, 0},
+    {"request ", run_worked_request, 0},
+    {"discard ", run_worked_discard, 0},
+    {"index ", run_index, 0},
+    {"place ", run_place, 0},
+    {"result ", run_result, 0},
+    {"response ", run_response, 0},
 };
 
 static bool run_worked(host *h, const char *given, text *came) {
@@ -460,8 +503,9 @@ static void worked_cases(host *h) {
 }
 
 int main(void) {
-    static const test named[] = {TEST(sheet_vectors), TEST(record_vectors)};
-    static const test either[] = {TEST(request_vectors), TEST(segment_vectors), TEST(worked_cases)};
+    static const test named[] = {TEST(sheet_vectors)};
+    static const test any_shape[] = {TEST(request_vectors), TEST(segment_vectors), TEST(record_vectors),
+                                     TEST(worked_cases)};
     int failed = run_tests(named, COUNT_OF(named));
-    return run_in_both_layouts(either, COUNT_OF(either)) | failed;
+    return run_in_every_shape(any_shape, COUNT_OF(any_shape)) | failed;
 }

@@ -4,45 +4,19 @@
  */
 #include "wrong_23.h"
 #include "wrong_29.h"
-
-uint32_t __real_kh_open(kh_memory *memory, uint32_t port, const uint8_t *sheet, size_t sheet_bytes);
-uint32_t __real_kh_close(kh_memory *memory, uint32_t port);
-uint32_t __real_kh_turn(kh_memory *memory, uint8_t *rings, size_t rings_bytes, const uint8_t *grants,
-                        size_t grants_bytes, uint64_t *answer);
-uint32_t __real_kh_complete(kh_memory *memory, uint8_t *rings, size_t rings_bytes, uint32_t port, uint32_t tag,
-                            uint32_t serial, int32_t result, uint64_t *answer);
+#include "wrong_rings.h"
 
 typedef void raise_meter(kh_meter *meter, uint32_t returned, const uint64_t *answer);
 raise_meter __real_kh_meter_turn, __real_kh_meter_completion, __wrap_kh_meter_turn, __wrap_kh_meter_completion;
 
-/* ---- the layouts of the ports, by the last opening of each; the tests have one backend at a time */
+/* ---- a 32-bit port's slots taken for those of a 64-bit one */
 
-static enum kh_abi abis[KH_PORTS];
-
-static uint8_t *slot_of(uint8_t *page, size_t slot_bytes, uint32_t index) {
-    return page + KH_HEADER_BYTES + slot_bytes * (index % KH_SLOTS);
-}
-
-/* The slot of a port's last response. */
-static uint8_t *last_response(uint8_t *rings, uint64_t port) {
-    uint8_t *page = rings + KH_RING_BYTES * port;
-    uint32_t produced;
-    memcpy(&produced, page + KH_RSP_PROD, sizeof produced);
-    return slot_of(page, kh_slot_bytes(abis[port]), produced - 1);
-}
-
-/* A response as a 64-bit guest has it, in the slot of a 32-bit one. */
-static void pad_response(uint8_t *rings, uint64_t port) {
-    if (abis[port] == KH_BITS32)
-        memset(last_response(rings, port) + KH_RESPONSE32_BYTES, 0, KH_RESPONSE_BYTES - KH_RESPONSE32_BYTES);
-}
-
-/* Copies the slots of each 32-bit port from where they are in the one page to where they are in the other. */
-static void move_slots(uint8_t *to, size_t to_bytes, uint8_t *from, size_t from_bytes) {
-    for (int port = 0; port < KH_PORTS; port++)
-        for (uint32_t i = 0; abis[port] == KH_BITS32 && i < KH_SLOTS; i++)
-            memcpy(slot_of(to + KH_RING_BYTES * port, to_bytes, i), slot_of(from + KH_RING_BYTES * port, from_bytes, i),
-                   KH_SLOT32_BYTES);
+/* Copies the slots of each 32-bit port from where they are in the one ring to where they are in the other. */
+static void move_slots(uint8_t *to, size_t to_bytes, const uint8_t *from, size_t from_bytes) {
+    for (uint64_t port = 0; port < KH_PORTS; port++)
+        for (size_t i = 0; abis[port] == KH_BITS32 && i < kh_slots(pages_of(port)); i++)
+            memcpy(to + KH_RING_BYTES * port + KH_HEADER_BYTES + to_bytes * i,
+                   from + KH_RING_BYTES * port + KH_HEADER_BYTES + from_bytes * i, KH_SLOT32_BYTES);
 }
 
 /* A turn that looks for the slots of 32-bit ports, and puts their responses, where those of 64-bit ports are. */
@@ -53,9 +27,8 @@ static uint32_t turn_by_112(kh_memory *memory, uint8_t *rings, const uint8_t *gr
     memcpy(moved, rings, sizeof moved);
     move_slots(moved, KH_SLOT32_BYTES, rings, KH_SLOT_BYTES);
     number = __real_kh_turn(memory, moved, sizeof moved, grants, grants_bytes, answer);
-    for (int port = 0; port < KH_PORTS; port++)
-        memcpy(rings + KH_RING_BYTES * port, moved + KH_RING_BYTES * port,
-               abis[port] == KH_BITS32 ? KH_HEADER_BYTES : KH_RING_BYTES);
+    for (uint64_t port = 0; port < KH_PORTS; port++)
+        memcpy(share_of(rings, port), share_of(moved, port), abis[port] == KH_BITS32 ? KH_HEADER_BYTES : KH_RING_BYTES);
     move_slots(rings, KH_SLOT_BYTES, moved, KH_SLOT32_BYTES);
     return number;
 }
@@ -64,18 +37,17 @@ static uint32_t turn_by_112(kh_memory *memory, uint8_t *rings, const uint8_t *gr
 static uint32_t try_turn(const kh_memory *memory, const uint8_t *rings, const uint8_t *grants, size_t grants_bytes,
                          uint64_t *answer) {
     static kh_memory tried;
-    static uint8_t pages[KH_RINGS_BYTES];
+    static uint8_t copy[KH_RINGS_BYTES];
     tried = *memory;
-    memcpy(pages, rings, sizeof pages);
+    memcpy(copy, rings, sizeof copy);
     for (uint64_t port = 0; is_29_judged_here() && port < KH_PORTS; port++)
         words_of_port(&tried, port)[SECTOR_SIZE] = 0;
-    return __real_kh_turn(&tried, pages, sizeof pages, grants, grants_bytes, answer);
+    return __real_kh_turn(&tried, copy, sizeof copy, grants, grants_bytes, answer);
 }
 
 /* The slot that a port takes its next request from. */
 static uint8_t *next_slot(kh_memory *memory, uint8_t *rings, uint64_t port) {
-    uint32_t consumed = (uint32_t)words_of_port(memory, port)[CONSUMED];
-    return slot_of(rings + KH_RING_BYTES * port, kh_slot_bytes(abis[port]), consumed);
+    return slot_of(rings, port, (uint32_t)words_of_port(memory, port)[CONSUMED]);
 }
 
 /* Where a slot of that port has its start; what it has of segments or of a discard's count lies behind. */
@@ -168,20 +140,32 @@ static const uint8_t *with_old_layout(uint32_t port, const uint8_t *sheet, size_
 
 /* ---- the calls */
 
+/* What the port is taken to have been opened for, where it was. */
+static void note_opening(kh_memory *memory, uint32_t port, const uint8_t *sheet, size_t sheet_bytes) {
+    if (wrong("pages_kept") && pages_of(port) == 2)
+        words_of_port(memory, port)[PAGES] = SECOND_PAGE;
+    abis[port] = kh_read_abi(sheet, sheet_bytes);
+    orders[port] = kh_read_pages(sheet, sheet_bytes) - 1;
+}
+
 uint32_t __wrap_kh_open(kh_memory *memory, uint32_t port, const uint8_t *sheet, size_t sheet_bytes) {
-    enum kh_abi abi = kh_read_abi(sheet, sheet_bytes);
+    const uint8_t *seen = sheet;
     uint32_t number;
     peek("before_sheet", "after_sheet", sheet, sheet_bytes);
     peek("before_memory", "after_memory", memory, sizeof(kh_memory));
     if (wrong("layout_kept"))
-        sheet = with_old_layout(port, sheet, sheet_bytes);
-    number = __real_kh_open(memory, port, sheet, sheet_bytes);
+        seen = with_old_layout(port, sheet, sheet_bytes);
+    if (wrong("node_9_ignored"))
+        seen = with_one_page(sheet, sheet_bytes);
+    number = __real_kh_open(memory, port, seen, sheet_bytes);
     if (number == KH_OK)
-        abis[port] = abi;
+        note_opening(memory, port, sheet, sheet_bytes);
     if (wrong("open_13_for_14") && number == 14)
         return 13;
-    if (wrong("no_32_bit_guests") && number == KH_OK && abi == KH_BITS32)
+    if (wrong("no_32_bit_guests") && number == KH_OK && abis[port] == KH_BITS32)
         return 13;
+    if (wrong("no_two_pages") && number == KH_OK && pages_of(port) == 2)
+        return 14;
     if (wrong("refused_open_writes") && number != KH_OK)
         memory->words[KH_MEMORY_WORDS - 1] ^= 1;
     return number;
@@ -191,10 +175,15 @@ uint32_t __wrap_kh_close(kh_memory *memory, uint32_t port) {
     uint32_t number = __real_kh_close(memory, port);
     if (wrong("refused_close_writes") && number != KH_OK)
         memory->words[0] ^= 1;
+    if (wrong("close_keeps_pages") && number == KH_OK)
+        words_of_port(memory, port)[PAGES] = SECOND_PAGE * orders[port];
+    if (wrong("close_keeps_last_tag") && number == KH_OK)
+        words_of_tag(memory, port, KH_TAGS - 1)[TAG_SERIAL] = orders[port];
     return number;
 }
 
-static void spoil_turn(uint8_t *rings, uint64_t *answer) {
+static void spoil_turn(kh_memory *memory, uint8_t *rings, uint64_t *answer) {
+    touch_second_halves(memory, rings);
     if (wrong("idle_touches_closed_port") && answer[KH_TURN_KIND] == KH_IDLE)
         rings[3 * KH_RING_BYTES + KH_REQ_EVENT] ^= 1;
     if (wrong("padding_left") && answer[KH_TURN_KIND] == KH_ANSWERED)
@@ -215,42 +204,89 @@ static void spoil_turn(uint8_t *rings, uint64_t *answer) {
         answer[KH_TURN_SECURE] = 0;
 }
 
+/* The turn of a library with another way to read the rings, or a request. */
+static uint32_t turn_wrongly(kh_memory *memory, uint8_t *rings, const uint8_t *grants, size_t grants_bytes,
+                             uint64_t *answer) {
+    if (wrong("slots_by_112"))
+        return turn_by_112(memory, rings, grants, grants_bytes, answer);
+    if (wrong("line_at_32_on_two_pages") || wrong("line_at_64_on_one_page"))
+        return turn_by_other_line(memory, rings, grants, grants_bytes, answer);
+    if (wrong("slots_by_32") || wrong("slots_by_64"))
+        return turn_by_other_slots(memory, rings, grants, grants_bytes, answer);
+    if (wrong("shares_of_4096"))
+        return turn_by_pages(memory, rings, grants, grants_bytes, answer);
+    if (is_29_judged_here())
+        return turn_by_own_29(memory, rings, grants, grants_bytes, answer);
+    if (is_23_judged_here())
+        return turn_by_own_flag(memory, rings, grants, grants_bytes, answer);
+    return __real_kh_turn(memory, rings, KH_RINGS_BYTES, grants, grants_bytes, answer);
+}
+
 uint32_t __wrap_kh_turn(kh_memory *memory, uint8_t *rings, size_t rings_bytes, const uint8_t *grants,
                         size_t grants_bytes, uint64_t *answer) {
     uint32_t number;
     peek("before_rings", "after_rings", rings, rings_bytes);
     peek("before_grants", "after_grants", grants, grants_bytes);
     peek("before_turned", "after_turned", answer, 8 * KH_TURN_WORDS);
-    if (wrong("slots_by_112") && rings_bytes == KH_RINGS_BYTES)
-        number = turn_by_112(memory, rings, grants, grants_bytes, answer);
-    else if (is_29_judged_here() && rings_bytes == KH_RINGS_BYTES)
-        number = turn_by_own_29(memory, rings, grants, grants_bytes, answer);
-    else if (is_23_judged_here() && rings_bytes == KH_RINGS_BYTES)
-        number = turn_by_own_flag(memory, rings, grants, grants_bytes, answer);
+    if (wrong("rings_of_32768") && rings_bytes == KH_PORTS * KH_PAGE_BYTES && grants_bytes == KH_GRANTS_BYTES)
+        return KH_OK;
+    if (rings_bytes == KH_RINGS_BYTES)
+        number = turn_wrongly(memory, rings, grants, grants_bytes, answer);
     else
         number = __real_kh_turn(memory, rings, rings_bytes, grants, grants_bytes, answer);
     if (wrong("refused_turn_writes") && number != KH_OK)
         answer[KH_TURN_KIND] = 0;
     if (number == KH_OK)
-        spoil_turn(rings, answer);
+        spoil_turn(memory, rings, answer);
     return number;
+}
+
+/* A completion by a library that has tags for two pages on every port. */
+static uint32_t complete_by_64_tags(kh_memory *memory, uint8_t *rings, size_t rings_bytes, uint32_t port, uint32_t tag,
+                                    uint32_t serial, int32_t result, uint64_t *answer) {
+    uint64_t *kept = words_of_port(memory, port);
+    uint32_t number;
+    kept[PAGES] = SECOND_PAGE;
+    number = __real_kh_complete(memory, rings, rings_bytes, port, tag, serial, result, answer);
+    kept[PAGES] = 0;
+    return number;
+}
+
+static bool is_response_misplaced(void) {
+    return wrong("responses_by_32") || wrong("responses_by_64");
+}
+
+static void spoil_completion(uint8_t *rings, const uint8_t *before, uint32_t port) {
+    if (wrong("rest_of_slot"))
+        last_response(rings, port)[kh_response_bytes(abis[port])] ^= 1;
+    if (wrong("completed_as_64_bit"))
+        pad_response(rings, port);
+    if (is_response_misplaced())
+        misplace_response(rings, before, port);
 }
 
 uint32_t __wrap_kh_complete(kh_memory *memory, uint8_t *rings, size_t rings_bytes, uint32_t port, uint32_t tag,
                             uint32_t serial, int32_t result, uint64_t *answer) {
+    static uint8_t before[KH_RINGS_BYTES];
+    bool is_upper = port < KH_PORTS && tag >= KH_PAGE_SLOTS && tag < KH_TAGS;
     uint32_t number;
     peek("before_done", "after_done", answer, 8 * KH_DONE_WORDS);
+    if (is_response_misplaced() && rings_bytes == KH_RINGS_BYTES)
+        memcpy(before, rings, sizeof before);
     if (wrong("serial_of_31_bits"))
         serial &= INT32_MAX;
     if (wrong("short_count_is_okay") && result == 7)
         result = 8;
-    number = __real_kh_complete(memory, rings, rings_bytes, port, tag, serial, result, answer);
+    if (wrong("tags_above_31_refused") && is_upper && pages_of(port) == 2)
+        return KH_NOT_BUSY;
+    if (wrong("tags_to_63_on_one_page") && is_upper && pages_of(port) == 1)
+        number = complete_by_64_tags(memory, rings, rings_bytes, port, tag, serial, result, answer);
+    else
+        number = __real_kh_complete(memory, rings, rings_bytes, port, tag, serial, result, answer);
     if (wrong("refused_complete_writes") && number != KH_OK)
         answer[KH_DONE_PORT] = 0;
-    if (wrong("rest_of_slot") && number == KH_OK)
-        last_response(rings, port)[kh_response_bytes(abis[port])] ^= 1;
-    if (wrong("completed_as_64_bit") && number == KH_OK)
-        pad_response(rings, port);
+    if (number == KH_OK)
+        spoil_completion(rings, before, port);
     return number;
 }
 

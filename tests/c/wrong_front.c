@@ -17,7 +17,7 @@ static uint64_t *entry_of(kh_guest *guest, uint64_t i) {
 }
 
 static uint64_t count_of(const kh_guest *guest) {
-    return guest->words[COUNT] < KH_SLOTS ? guest->words[COUNT] : KH_SLOTS;
+    return guest->words[COUNT] < KH_PAGE_SLOTS ? guest->words[COUNT] : KH_PAGE_SLOTS;
 }
 
 static void store(uint8_t *at, const void *value, size_t bytes) {
@@ -31,19 +31,19 @@ static uint32_t index_at(const uint8_t *page, size_t field) {
 }
 
 static uint8_t *slot_at(uint8_t *page, uint64_t index) {
-    return page + KH_HEADER_BYTES + KH_SLOT_BYTES * (index % KH_SLOTS);
+    return page + KH_HEADER_BYTES + KH_SLOT_BYTES * (index % KH_PAGE_SLOTS);
 }
 
 static bool is_wrong_length(size_t page_bytes) {
-    if (wrong("longer_page") && page_bytes > KH_RING_BYTES)
+    if (wrong("longer_page") && page_bytes > KH_GUEST_PAGE_BYTES)
         return false;
-    return page_bytes != KH_RING_BYTES;
+    return page_bytes != KH_GUEST_PAGE_BYTES;
 }
 
 /* ---- putting */
 
 static bool is_id_outstanding(kh_guest *guest, uint64_t id) {
-    uint64_t count = wrong("id_0_outstanding") ? KH_SLOTS : count_of(guest);
+    uint64_t count = wrong("id_0_outstanding") ? KH_PAGE_SLOTS : count_of(guest);
     if (wrong("id_may_come_again"))
         return false;
     for (uint64_t i = 0; i < count; i++) {
@@ -108,7 +108,7 @@ static bool is_request_sound(const uint64_t *request) {
 }
 
 static uint32_t refusal_of_put(kh_guest *guest, size_t page_bytes, const uint64_t *request) {
-    bool is_full = count_of(guest) == (wrong("ring_of_31") ? 31 : KH_SLOTS) && !wrong("ring_never_full");
+    bool is_full = count_of(guest) == (wrong("ring_of_31") ? 31 : KH_PAGE_SLOTS) && !wrong("ring_never_full");
     bool is_known = is_id_outstanding(guest, request[KH_REQUEST_ID]);
     if (is_full && wrong("order_1_31"))
         return KH_RING_FULL;
@@ -202,7 +202,7 @@ uint32_t __wrap_kh_guest_put(kh_guest *guest, uint8_t *page, size_t page_bytes, 
     if (number != KH_OK)
         return number;
     publish(guest, page, request, answer);
-    if (count_of(guest) < KH_SLOTS) {
+    if (count_of(guest) < KH_PAGE_SLOTS) {
         entry_of(guest, count_of(guest))[0] = request[KH_REQUEST_ID];
         entry_of(guest, count_of(guest))[1] = request[KH_REQUEST_OPERATION];
         guest->words[COUNT]++;
@@ -217,7 +217,7 @@ static bool is_too_far(kh_guest *guest, uint32_t distance) {
         return false;
     if (wrong("behind_is_nothing") && distance >> 31 != 0)
         return false;
-    return distance > (wrong("distance_by_the_ring") ? KH_SLOTS : count_of(guest));
+    return distance > (wrong("distance_by_the_ring") ? KH_PAGE_SLOTS : count_of(guest));
 }
 
 static bool fits(const uint64_t *entry, const uint8_t *slot) {
@@ -225,19 +225,19 @@ static bool fits(const uint64_t *entry, const uint8_t *slot) {
     return (same_id || wrong("operation_alone")) && (entry[1] == slot[8] || wrong("id_alone"));
 }
 
-/* The entry that a response is for, or KH_SLOTS. */
+/* The entry that a response is for, or KH_PAGE_SLOTS. */
 static uint64_t find(kh_guest *guest, const uint8_t *slot) {
-    uint64_t count = wrong("zeros_fit") ? KH_SLOTS : count_of(guest);
+    uint64_t count = wrong("zeros_fit") ? KH_PAGE_SLOTS : count_of(guest);
     uint16_t status;
     memcpy(&status, slot + 10, sizeof status);
     if (wrong("padding_judged") && (slot[9] != 0 || slot[12] != 0))
-        return KH_SLOTS;
+        return KH_PAGE_SLOTS;
     if (wrong("status_judged") && status != 0 && status < 0xFFFE)
-        return KH_SLOTS;
+        return KH_PAGE_SLOTS;
     for (uint64_t i = 0; i < count; i++)
         if (fits(entry_of(guest, i), slot))
             return i;
-    return KH_SLOTS;
+    return KH_PAGE_SLOTS;
 }
 
 /* The last entry takes its place, so that the others are at the begin. */
@@ -278,7 +278,7 @@ static uint32_t look(kh_guest *guest, uint8_t *page, uint64_t *answer) {
     uint32_t distance = index_at(page, KH_RSP_PROD) - rsp_cons;
     uint8_t *slot = slot_at(page, rsp_cons);
     uint64_t which = find(guest, slot);
-    if (wrong("order_34_35") && distance != 0 && which == KH_SLOTS)
+    if (wrong("order_34_35") && distance != 0 && which == KH_PAGE_SLOTS)
         return KH_NOT_OUTSTANDING;
     if (is_too_far(guest, distance))
         return KH_BAD_RSP_PROD;
@@ -286,7 +286,7 @@ static uint32_t look(kh_guest *guest, uint8_t *page, uint64_t *answer) {
         ask_for_notice(guest, page, answer);
         return KH_OK;
     }
-    if (which == KH_SLOTS)
+    if (which == KH_PAGE_SLOTS)
         return KH_NOT_OUTSTANDING;
     give_response(slot, answer);
     end_request(guest, which);

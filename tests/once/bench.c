@@ -12,8 +12,15 @@
 #define MAPPED_BYTES (RINGS_AT - MARKERS_AT + KH_RINGS_BYTES + PAGE_BYTES)
 
 const struct layout layouts[] = {
-    [KH_BITS64] = {"64-bit", "x86_64-abi", 112, 16, 8, 16, 24},
-    [KH_BITS32] = {"32-bit", "x86_32-abi", 108, 12, 4, 12, 20},
+    [KH_BITS64] = {"x86_64-abi", 112, 16, 8, 16, 24},
+    [KH_BITS32] = {"x86_32-abi", 108, 12, 4, 12, 20},
+};
+
+const struct shape shapes[SHAPES] = {
+    {"64-bit", KH_BITS64, 1},
+    {"32-bit", KH_BITS32, 1},
+    {"64-bit two-page", KH_BITS64, 2},
+    {"32-bit two-page", KH_BITS32, 2},
 };
 
 struct bench bench;
@@ -47,7 +54,7 @@ void map_buffers(void) {
 }
 
 void call_backend(const struct backend *backend, const struct call *call, uint8_t *lent, struct outcome *outcome) {
-    uint8_t *page = lent + PAGE_BYTES * call->port; /* the guest's */
+    uint8_t *page = lent + SHARE_BYTES * call->port; /* the guest's */
     switch (call->callee) {
     case CALL_TURN:
         outcome->refusal =
@@ -83,10 +90,22 @@ const struct layout *layout_of(unsigned port) {
     return &layouts[bench.ports[port].abi];
 }
 
+unsigned slots_of(unsigned port) {
+    return bench.ports[port].pages == 2 ? 64 : 32;
+}
+
+bool is_second_half(unsigned at) {
+    return at % SHARE_BYTES >= PAGE_BYTES && bench.ports[at / SHARE_BYTES].pages != 2;
+}
+
 unsigned header_at(unsigned port, unsigned field) {
-    return PAGE_BYTES * port + field;
+    return SHARE_BYTES * port + field;
+}
+
+unsigned slot_among(unsigned port, unsigned slots, uint32_t index) {
+    return SHARE_BYTES * port + FIRST_SLOT + layout_of(port)->slot_bytes * (index % slots);
 }
 
 unsigned slot_at(unsigned port, uint32_t index) {
-    return PAGE_BYTES * port + FIRST_SLOT + layout_of(port)->slot_bytes * (index % SLOTS);
+    return slot_among(port, slots_of(port), index);
 }

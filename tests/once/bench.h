@@ -6,17 +6,27 @@
 
 #include <kernelharp.h>
 
-enum { PORTS = 8, SLOTS = 32, PAGE_BYTES = 4096, INDEX_BYTES = 4 };
+enum { PORTS = 8, PAGE_SLOTS = 32, PAGE_BYTES = 4096, SHARE_BYTES = 8192, INDEX_BYTES = 4 };
 enum { REQ_PROD = 0, REQ_EVENT = 4, RSP_PROD = 8, RSP_EVENT = 12, FIRST_SLOT = 64 };
 
 /* How a guest lays out a slot: its bytes, a response's, and where a request has its fields. */
 struct layout {
-    const char *name, *protocol;
+    const char *protocol;
     unsigned slot_bytes, response_bytes, id, start, segments;
 };
 
 enum { MOST_SLOT_BYTES = 112 };
 extern const struct layout layouts[]; /* by enum kh_abi */
+
+/* What a guest's ring is like: rings of both layouts, of one page and of two. */
+struct shape {
+    const char *name;
+    enum kh_abi abi;
+    unsigned pages;
+};
+
+enum { SHAPES = 4 };
+extern const struct shape shapes[SHAPES];
 
 enum state { CLOSED, OPEN, BROKEN };
 
@@ -25,7 +35,7 @@ enum state { CLOSED, OPEN, BROKEN };
 struct book {
     enum state state;
     enum kh_abi abi;
-    unsigned unit;
+    unsigned pages, unit;
     bool secure;
     uint32_t taken, answered;
 };
@@ -90,9 +100,14 @@ void store32(uint8_t *to, uint32_t value);
 void store64(uint8_t *to, uint64_t value);
 
 const struct layout *layout_of(unsigned port);
+unsigned slots_of(unsigned port);
 
-/* Places in the ring buffer. */
+/* Whether a byte is in the second half of a port's share, and in no ring: the port has one page, or is closed. */
+bool is_second_half(unsigned at);
+
+/* Places in the ring buffer; the second in a ring of so many slots. */
 unsigned header_at(unsigned port, unsigned field);
+unsigned slot_among(unsigned port, unsigned slots, uint32_t index);
 unsigned slot_at(unsigned port, uint32_t index);
 
 _Noreturn void fail(const char *format, ...) __attribute__((format(printf, 1, 2)));

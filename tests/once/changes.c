@@ -14,10 +14,11 @@ static void move_index(const char *name, unsigned port, unsigned field, uint32_t
 /* Of the port that is looked at most: nothing to serve, one or two requests, as many as may be, one too many, and one
    behind. Of the others: one request or too many, whether anybody may look there or not. */
 static void move_req_prod(unsigned port, changer *with) {
-    static const uint32_t distances[] = {1, SLOTS + 1, 0, 2, SLOTS, UINT32_MAX};
-    for (unsigned k = 0; k < PORTS; k++)
+    for (unsigned k = 0; k < PORTS; k++) {
+        uint32_t distances[] = {1, slots_of(k) + 1, 0, 2, slots_of(k), UINT32_MAX};
         for (unsigned i = 0; i < (k == port ? 6 : 2); i++)
             move_index("req_prod", k, REQ_PROD, bench.ports[k].taken + distances[i], with);
+    }
 }
 
 static void move_others(unsigned port, changer *with) {
@@ -106,7 +107,7 @@ static void each_guest_change(const struct ledger *front, changer *with) {
     move_index("rsp_event", front->port, RSP_EVENT, front->rsp_cons + 7, with);
     replace_response(slot_at(front->port, front->rsp_cons), with);
     flip("slot flipped", slot_at(front->port, front->req_prod), MOST_SLOT_BYTES, with);
-    flip("page flipped", PAGE_BYTES * front->port, PAGE_BYTES, with);
+    flip("page flipped", SHARE_BYTES * front->port, PAGE_BYTES, with);
 }
 
 void each_change(const struct scenario *scenario, changer *with) {
@@ -123,6 +124,7 @@ void each_change(const struct scenario *scenario, changer *with) {
         move_segments(port, with);
     }
     flip("slot flipped", slot_at(port, bench.ports[port].taken), layout_of(port)->slot_bytes, with);
-    flip("page flipped", PAGE_BYTES * port, PAGE_BYTES, with);
+    flip("ring flipped", SHARE_BYTES * port, PAGE_BYTES * bench.ports[port].pages, with);
+    flip("second half flipped", SHARE_BYTES * port + PAGE_BYTES, PAGE_BYTES, with);
     flip("all rings flipped", 0, KH_RINGS_BYTES, with);
 }

@@ -17,7 +17,7 @@ static const struct taker *taker;
 static const uint64_t first_id = 0x1122334455667788;
 
 static uint8_t *page(void) {
-    return rings + PAGE_BYTES * bench.front.port;
+    return rings + SHARE_BYTES * bench.front.port;
 }
 
 /* A request's words: whole frames, and the last of them given by its number of segments. */
@@ -111,7 +111,7 @@ static void puttings(void) {
             bench.request[KH_REQUEST_FLAG] = asked[a].flag;
             put_with(asked[a].name, i % 2);
         }
-    for (unsigned i = 0; i < 4 * SLOTS && taker->is_wanted(everywhere); i++) {
+    for (unsigned i = 0; i < 4 * PAGE_SLOTS && taker->is_wanted(everywhere); i++) {
         struct stand stand = {i % PORTS, i / 2, i / 4};
         stand_at(&stand);
         ask(KH_READ, 1, 1 + i % KH_SEGMENTS);
@@ -126,7 +126,7 @@ static void refuse(const char *name, enum callee callee, size_t page_bytes, uint
 }
 
 static void refuse_lengths(const char *name, enum callee callee) {
-    static const size_t wrong[] = {0, PAGE_BYTES - 1, PAGE_BYTES + 1, KH_RINGS_BYTES, SIZE_MAX};
+    static const size_t wrong[] = {0, PAGE_BYTES - 1, PAGE_BYTES + 1, SHARE_BYTES, KH_RINGS_BYTES, SIZE_MAX};
     for (unsigned i = 0; i < sizeof wrong / sizeof *wrong && taker->is_wanted(name); i++) {
         stand_at(&stands[i]);
         ask(KH_READ, 1, 1);
@@ -162,7 +162,7 @@ static void puttings_refused_33(void) {
 }
 
 static void puttings_refused(void) {
-    static const struct stand full = {4, 33, SLOTS};
+    static const struct stand full = {4, 33, PAGE_SLOTS};
     static const char *const again = "put refused 32";
     refuse_lengths("put refused 1", CALL_PUT);
     stand_at(&full);
@@ -196,7 +196,7 @@ static void collect_each(const char *name, const struct stand *stand) {
 }
 
 static void collectings(void) {
-    static const struct stand full = {1, 45, SLOTS};
+    static const struct stand full = {1, 45, PAGE_SLOTS};
     static const char *const nothing = "nothing to collect";
     for (unsigned s = 0; s < STANDS; s++)
         collect_each("collected: one of some", &stands[s]);
@@ -229,7 +229,7 @@ static void refuse_rsp_prod(const char *name, const uint32_t *beyond, unsigned c
 }
 
 static void collectings_refused(void) {
-    static const uint32_t ahead[] = {1, 2, SLOTS + 1, UINT32_C(1) << 31}, behind[] = {UINT32_MAX - SLOTS};
+    static const uint32_t ahead[] = {1, 2, PAGE_SLOTS + 1, UINT32_C(1) << 31}, behind[] = {UINT32_MAX - PAGE_SLOTS};
     refuse_lengths("collecting refused 1", CALL_COLLECT);
     refuse_rsp_prod("collecting refused 34: ahead", ahead, sizeof ahead / sizeof *ahead);
     refuse_rsp_prod("collecting refused 34: behind", behind, 1);

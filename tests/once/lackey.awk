@@ -2,7 +2,7 @@
 /^ S 100000000,8/ { within = 1; print "call"; next }
 /^ S 100000008,8/ { within = 0 }
 !within { next }
-/^ [LSM] 10000[2-9][0-9a-f][0-9a-f][0-9a-f],/ { print; next }
+/^ [LSM] 1000(0[2-9a-f]|1[01])[0-9a-f][0-9a-f][0-9a-f],/ { print; next }
 /^I/ {
     at = $2
     sub(/,.*/, "", at)

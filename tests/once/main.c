@@ -1,4 +1,5 @@
 /* once accesses [STANDIN]         every access to the rings against the rules
+   once shut [STANDIN]             the same calls with every page out of reach that is in no ring
    once changes [STANDIN [NAME]]   guest bytes changed in the middle of a call, in scenarios of that name
    once list                       the accesses of the samples
    once plain                      the samples with no trap, for another tracer
@@ -17,13 +18,15 @@ int main(int words, char **word) {
         run_plainly();
         return 0;
     }
+    if (strcmp(check, "shut") == 0)
+        return check_shut(backend) != 0;
     trap_install();
     if (strcmp(check, "accesses") == 0)
         return check_accesses(backend) != 0;
     if (strcmp(check, "changes") == 0)
         return check_changes(backend, words > 3 ? word[3] : "") != 0;
     if (strcmp(check, "list") != 0)
-        fail("which check? accesses, changes, list or plain");
+        fail("which check? accesses, shut, changes, list or plain");
     list_accesses();
     return 0;
 }

@@ -75,8 +75,8 @@ static void restore_as_loaded(const struct trace *trace) {
 
 static void fault(const char *what) {
     of_name.faults++;
-    fprintf(stderr, "%s: %s: %s: %s changed just before access %u of %u\n", layouts[scenario->abi].name, scenario->name,
-            what, change->name, moment + 1, undisturbed.count);
+    fprintf(stderr, "%s: %s: %s: %s changed just before access %u of %u\n", scenario->shape->name, scenario->name, what,
+            change->name, moment + 1, undisturbed.count);
 }
 
 static void judge_between(const struct trace *trace, const struct result *result) {
@@ -121,8 +121,8 @@ static void try_change(const struct change *next) {
 }
 
 static void end_scenario(void) {
-    printf("%-6s %s %-46s %5u changes: %5u as on the old bytes, %5u as on the new, %5u as loaded\n",
-           of_name.faults ? "FAULT" : "whole", layouts[scenario->abi].name, scenario->name,
+    printf("%-6s %-15s %-50s %5u changes: %5u as on the old bytes, %5u as on the new, %5u as loaded\n",
+           of_name.faults ? "FAULT" : "whole", scenario->shape->name, scenario->name,
            of_name.old + of_name.new + of_name.between, of_name.old, of_name.new, of_name.between);
     of_all.old += of_name.old;
     of_all.new += of_name.new;
@@ -131,9 +131,14 @@ static void end_scenario(void) {
     of_name = (struct counts){0};
 }
 
+/* What shows that the check refuses a stand-in shows it with rings of one page already. */
+static bool is_tried(const struct scenario *next) {
+    return strncmp(next->name, only_names, strlen(only_names)) == 0 && (backend == &archive || next->shape->pages == 1);
+}
+
 static void try_scenario(const struct scenario *next) {
     static struct trace trace;
-    if (strncmp(next->name, only_names, strlen(only_names)) != 0)
+    if (!is_tried(next))
         return;
     scenario = next;
     before.memory = bench.memory;
@@ -143,7 +148,7 @@ static void try_scenario(const struct scenario *next) {
     restore();
     traced_call(&archive, &scenario->call, NULL, &trace, &as_old);
     if (!is_expected(scenario, &as_old.outcome))
-        fail("%s: %s: another outcome", layouts[scenario->abi].name, scenario->name);
+        fail("%s: %s: another outcome", scenario->shape->name, scenario->name);
     restore();
     each_change(scenario, try_change);
     end_scenario();
@@ -152,7 +157,7 @@ static void try_scenario(const struct scenario *next) {
 unsigned check_changes(const struct backend *under_test, const char *only) {
     backend = under_test;
     only_names = only;
-    each_scenario(try_scenario, true);
+    each_scenario(try_scenario, FEW);
     printf("%u changes in the middle of a call: %u as on the old bytes, %u as on the new, %u as loaded; %u faults\n",
            of_all.old + of_all.new + of_all.between, of_all.old, of_all.new, of_all.between, of_all.faults);
     return of_all.faults;

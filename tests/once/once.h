@@ -7,7 +7,12 @@
 /* Every access of every call against the rules; for a stand-in, of the samples. */
 unsigned check_accesses(const struct backend *backend);
 
-/* Guest bytes changed before each access of the samples: of those whose names begin with `only`. */
+/* Every call with the pages out of reach that it has no business in: second halves of one-page ports, and the shares of
+   closed ones. */
+unsigned check_shut(const struct backend *backend);
+
+/* Guest bytes changed before each access of the samples: of those whose names begin with `only`; for a stand-in, with
+   rings of one page. */
 unsigned check_changes(const struct backend *backend, const char *only);
 
 /* The accesses of the archive's samples, in the words of valgrind's lackey. */

@@ -41,7 +41,7 @@ uint32_t serve(unsigned port, const struct request *request) {
 
 void overrun(unsigned port) {
     uint64_t answer[KH_TURN_WORDS];
-    store32(rings + header_at(port, REQ_PROD), bench.ports[port].taken + SLOTS + 1);
+    store32(rings + header_at(port, REQ_PROD), bench.ports[port].taken + slots_of(port) + 1);
     turn_of(port, answer);
     if (answer[KH_TURN_KIND] != OVERRUN)
         fail("port %u was to overrun", port);
@@ -52,14 +52,14 @@ void set_notify(unsigned port, bool notify) {
     store32(rings + header_at(port, RSP_EVENT), bench.ports[port].answered + (notify ? 1 : 2));
 }
 
-enum kh_abi other_abi(unsigned port) {
-    return port % 2 ? KH_BITS32 : KH_BITS64;
+const struct shape *other_shape(unsigned port) {
+    return &shapes[port % SHAPES];
 }
 
 static void close_port(unsigned port) {
     if (kh_close(&bench.memory, port) != KH_OK)
         fail("port %u does not close", port);
-    bench.ports[port].state = CLOSED;
+    bench.ports[port] = (struct book){.state = CLOSED};
 }
 
 void set_pointer(unsigned pointer) {
@@ -68,7 +68,7 @@ void set_pointer(unsigned pointer) {
     if (state != OPEN) {
         if (state == BROKEN)
             close_port(before);
-        open_port(before, other_abi(before), NULL);
+        open_port(before, other_shape(before), NULL);
     }
     if (state == BROKEN)
         overrun(before);
@@ -82,20 +82,20 @@ static void prepare_others(const struct place *place) {
     for (unsigned k = 0; k < PORTS; k++) {
         if (k == place->port || place->others == ALONE)
             continue;
-        open_port(k, other_abi(k), NULL);
+        open_port(k, other_shape(k), NULL);
         if (place->others == MIXED && k % 2 == 0)
             overrun(k);
     }
 }
 
-void prepare(const struct place *place, enum kh_abi abi, const struct disk *disk) {
+void prepare(const struct place *place, const struct shape *shape, const struct disk *disk) {
     bool last_served = (place->port + 1) % PORTS == place->pointer;
     unsigned served = place->slot;
     if (served < place->in_flight || (served == 0 && last_served))
-        served += SLOTS;
+        served += PAGE_SLOTS * shape->pages;
     reset();
     prepare_others(place);
-    open_port(place->port, abi, disk);
+    open_port(place->port, shape, disk);
     for (unsigned i = 0; i < served; i++)
         serve(place->port, i < served - place->in_flight ? &dummy : &held);
     if (!last_served)

@@ -1,5 +1,5 @@
 /* Where a call finds the backend: which ports are open, whom the next turn serves, where the pointer stands, and how
- * far the indices are. The other ports are of both layouts in turns. */
+ * far the indices are. The other ports have rings of every shape in turns. */
 #ifndef ONCE_PLACE_H
 #define ONCE_PLACE_H
 
@@ -8,16 +8,17 @@
 /* The other ports: closed; open with nothing to serve; or, in turns, open and broken. */
 enum others { ALONE, ALL_OPEN, MIXED };
 
+/* The slot is that of the port's next request; one beyond the ring stands for as many wraps before. */
 struct place {
     unsigned port, pointer, slot, in_flight;
     enum others others;
 };
 
-/* Leaves the port, which is of that layout, with nothing to serve, its next request in the slot named. */
-void prepare(const struct place *place, enum kh_abi abi, const struct disk *disk);
+/* Leaves the port, whose ring has that shape, with nothing to serve. */
+void prepare(const struct place *place, const struct shape *shape, const struct disk *disk);
 
-/* The layout of a port that is none of the scenario's own. */
-enum kh_abi other_abi(unsigned port);
+/* The shape of a port's ring that is none of the scenario's own. */
+const struct shape *other_shape(unsigned port);
 
 /* An untraced turn over a request of that port. The answer is the tag of a started one. */
 uint32_t serve(unsigned port, const struct request *request);

@@ -134,9 +134,16 @@ void grant_frames(void) {
     }
 }
 
-static size_t write_sheet(uint8_t *sheet, const struct layout *layout, const struct disk *disk) {
-    const char *bodies[] = {disk->mode,   disk->barrier,     disk->flush,   disk->discard,
-                            disk->secure, disk->sector_size, disk->sectors, layout->protocol};
+static size_t write_sheet(uint8_t *sheet, const struct shape *shape, const struct disk *disk) {
+    const char *bodies[] = {disk->mode,
+                            disk->barrier,
+                            disk->flush,
+                            disk->discard,
+                            disk->secure,
+                            disk->sector_size,
+                            disk->sectors,
+                            layouts[shape->abi].protocol,
+                            shape->pages == 2 ? "1" : "0"};
     enum { NODES = sizeof bodies / sizeof *bodies };
     size_t end = 1 + 4 * NODES;
     sheet[0] = NODES;
@@ -153,16 +160,19 @@ static unsigned unit_of(const struct disk *disk) {
     return (unsigned)atoi(disk->sector_size) / KH_SECTOR_BYTES;
 }
 
-void open_port(unsigned port, enum kh_abi abi, const struct disk *disk) {
+void open_port(unsigned port, const struct shape *shape, const struct disk *disk) {
     uint8_t sheet[128];
     if (!disk)
         disk = &full;
-    size_t bytes = write_sheet(sheet, &layouts[abi], disk);
+    size_t bytes = write_sheet(sheet, shape, disk);
     uint32_t refusal = kh_open(&bench.memory, port, sheet, bytes);
     if (refusal != KH_OK)
         fail("open of port %u refused: %u", port, refusal);
-    bench.ports[port] =
-        (struct book){.state = OPEN, .abi = abi, .unit = unit_of(disk), .secure = disk->secure[0] == '1'};
+    bench.ports[port] = (struct book){.state = OPEN,
+                                      .abi = shape->abi,
+                                      .pages = shape->pages,
+                                      .unit = unit_of(disk),
+                                      .secure = disk->secure[0] == '1'};
     store32(rings + header_at(port, REQ_PROD), 0);
 }
 

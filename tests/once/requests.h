@@ -41,7 +41,7 @@ extern const unsigned request_count;
 extern const struct request dummy, held;
 
 void grant_frames(void);
-void open_port(unsigned port, enum kh_abi abi, const struct disk *disk);
+void open_port(unsigned port, const struct shape *shape, const struct disk *disk);
 void put_request(unsigned port, uint32_t index, const struct request *request);
 /* Whether its plan is a secure discard, should it start on that port. */
 bool is_secure(unsigned port, const struct request *request);

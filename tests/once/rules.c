@@ -87,27 +87,29 @@ static void name_all(struct named *named, const struct expect *expect) {
 const char *place_name(unsigned at) {
     static const char *const header[] = {"req_prod", "req_event", "rsp_prod", "rsp_event"};
     static char name[64];
-    unsigned port = at / PAGE_BYTES, in_page = at % PAGE_BYTES, slot_bytes = layout_of(port)->slot_bytes;
-    if (in_page < 16)
-        snprintf(name, sizeof name, "port %u, %s, byte %u", port, header[in_page / 4], in_page % 4);
-    else if (in_page >= FIRST_SLOT && in_page < FIRST_SLOT + SLOTS * slot_bytes)
-        snprintf(name, sizeof name, "port %u, slot %u, byte %u", port, (in_page - FIRST_SLOT) / slot_bytes,
-                 (in_page - FIRST_SLOT) % slot_bytes);
+    unsigned port = at / SHARE_BYTES, in_ring = at % SHARE_BYTES, slot_bytes = layout_of(port)->slot_bytes;
+    if (is_second_half(at))
+        snprintf(name, sizeof name, "port %u, second half, byte %u", port, in_ring - PAGE_BYTES);
+    else if (in_ring < 16)
+        snprintf(name, sizeof name, "port %u, %s, byte %u", port, header[in_ring / 4], in_ring % 4);
+    else if (in_ring >= FIRST_SLOT && in_ring < FIRST_SLOT + slots_of(port) * slot_bytes)
+        snprintf(name, sizeof name, "port %u, slot %u, byte %u", port, (in_ring - FIRST_SLOT) / slot_bytes,
+                 (in_ring - FIRST_SLOT) % slot_bytes);
     else
-        snprintf(name, sizeof name, "port %u, page byte %u", port, in_page);
+        snprintf(name, sizeof name, "port %u, ring byte %u", port, in_ring);
     return name;
 }
 
 static unsigned fault(const struct scenario *scenario, const struct access *access, unsigned at, const char *what) {
-    fprintf(stderr, "%s: %s: %s: %s, by the instruction at %#lx (%u bytes)\n", layouts[scenario->abi].name,
-            scenario->name, what, place_name(at), (unsigned long)access->instruction, access->size);
+    fprintf(stderr, "%s: %s: %s: %s, by the instruction at %#lx (%u bytes)\n", scenario->shape->name, scenario->name,
+            what, place_name(at), (unsigned long)access->instruction, access->size);
     return 1;
 }
 
-/* An index is stored after what it publishes, and loaded before what it speaks of; a put asks whether to notify when its
-   own is out. */
+/* An index is stored after what it publishes, and loaded before what it speaks of; a put asks whether to notify when
+   its own is out. */
 static const char *out_of_order(const struct access *access, const struct named *seen) {
-    unsigned header = access->at / PAGE_BYTES * PAGE_BYTES;
+    unsigned header = access->at / SHARE_BYTES * SHARE_BYTES;
     if (access->load && access->at == header + REQ_EVENT && !seen->store[header + REQ_PROD])
         return "loaded before req_prod is out";
     if (access->at - header < FIRST_SLOT)

@@ -28,9 +28,9 @@ static void call_plainly(const struct scenario *scenario) {
 }
 
 void list_accesses(void) {
-    each_scenario(list, true);
+    each_scenario(list, FEW);
 }
 
 void run_plainly(void) {
-    each_scenario(call_plainly, true);
+    each_scenario(call_plainly, FEW);
 }

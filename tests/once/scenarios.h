@@ -11,10 +11,10 @@ struct expect {
     bool secure, notify;
 };
 
-/* Scenarios of one name and layout come one after the other; the first is the sample of them. */
+/* Scenarios of one name and shape come one after the other; the first is the sample of them. */
 struct scenario {
     const char *name;
-    enum kh_abi abi; /* of the port that is served or completed on */
+    const struct shape *shape; /* of the ring of the port that is served or completed on */
     bool sample;
     struct call call;
     struct expect expect;
@@ -22,7 +22,10 @@ struct scenario {
 
 typedef void visitor(const struct scenario *scenario);
 
-/* All of them, or the samples alone; in the one layout, then in the other. */
-void each_scenario(visitor *visit, bool samples);
+/* All of them; the samples; or of the samples with rings of two pages some, and all others. */
+enum extent { ALL, SAMPLES, FEW };
+
+/* In one shape after the other. */
+void each_scenario(visitor *visit, enum extent extent);
 
 #endif

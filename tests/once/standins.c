@@ -24,6 +24,12 @@ static const char *const names[] = {
     [RSP_PROD_STORED_TWICE] = "rsp-prod-stored-twice",
     [RSP_PROD_FIRST] = "rsp-prod-first",
     [ARMED_ON_SERVICE] = "armed-on-service",
+    [SECOND_HALF_LOADED] = "second-half-loaded",
+    [SECOND_HALF_STORED] = "second-half-stored",
+    [SLOT_BY_32] = "slot-by-32",
+    [SLOT_BY_64] = "slot-by-64",
+    [RESPONSE_BY_32] = "response-by-32",
+    [RESPONSE_BY_64] = "response-by-64",
     [PUT_BY_THE_PAGE] = "put-by-the-page",
     [REQ_EVENT_FIRST] = "req-event-first",
     [REQ_EVENT_TWICE] = "req-event-twice",
@@ -101,9 +107,16 @@ static unsigned look(void) {
     return PORTS;
 }
 
+/* Where the slot of an index would be in every ring, if it had as many slots as these faults say. */
+static unsigned slot_seen(unsigned port, uint32_t index, enum fault by_32, enum fault by_64) {
+    unsigned slots = fault == by_32 ? 32 : fault == by_64 ? 64 : slots_of(port);
+    return slot_among(port, slots, index);
+}
+
 static void take_slot(unsigned port) {
     static void *(*volatile library_copy)(void *, const void *, size_t) = memcpy;
-    unsigned at = slot_at(port, bench.ports[port].taken), bytes = layout_of(port)->slot_bytes;
+    uint32_t index = bench.ports[port].taken;
+    unsigned at = slot_seen(port, index, SLOT_BY_32, SLOT_BY_64), bytes = layout_of(port)->slot_bytes;
     if (fault == SLOT_BY_LIBRARY)
         library_copy(copy + at, live + at, bytes);
     if (fault == TAIL_OVERLAP)
@@ -116,12 +129,15 @@ static void take_slot(unsigned port) {
         take_byte(at + bytes);
     if (fault == LOOKS_FURTHER)
         take32(header_at((port + 1) % PORTS, REQ_PROD));
+    if (fault == SECOND_HALF_LOADED && bench.ports[port].pages == 1)
+        take32(SHARE_BYTES * port + PAGE_BYTES);
+    memmove(copy + slot_at(port, index), copy + at, bytes);
 }
 
 static bool waits(unsigned port) {
     const struct book *book = &bench.ports[port];
     uint32_t distance = load32(copy + header_at(port, REQ_PROD)) - book->taken;
-    return distance + (uint64_t)(book->taken - book->answered) <= SLOTS;
+    return distance + (uint64_t)(book->taken - book->answered) <= slots_of(port);
 }
 
 static void take_rsp_event(unsigned port) {
@@ -133,13 +149,17 @@ static void take_rsp_event(unsigned port) {
 }
 
 static void give_response(unsigned port) {
-    unsigned at = slot_at(port, bench.ports[port].answered), bytes = layout_of(port)->response_bytes;
+    uint32_t index = bench.ports[port].answered;
+    unsigned at = slot_seen(port, index, RESPONSE_BY_32, RESPONSE_BY_64), bytes = layout_of(port)->response_bytes;
+    memmove(copy + at, copy + slot_at(port, index), bytes);
     if (fault == RSP_PROD_FIRST)
         give32(header_at(port, RSP_PROD));
     for (unsigned i = 0; i < (fault == RESPONSE_OF_16 ? KH_RESPONSE_BYTES : bytes); i += 4)
         give32(at + i);
     if (fault == BYTE_TOO_MANY)
         give_byte(at + bytes);
+    if (fault == SECOND_HALF_STORED && bench.ports[port].pages == 1)
+        give32(SHARE_BYTES * port + PAGE_BYTES);
     give32(header_at(port, RSP_PROD));
     if (fault == RSP_PROD_STORED_TWICE)
         give32(header_at(port, RSP_PROD));

@@ -30,6 +30,12 @@ enum fault {
     RSP_PROD_STORED_TWICE,
     RSP_PROD_FIRST,
     ARMED_ON_SERVICE,
+    SECOND_HALF_LOADED,
+    SECOND_HALF_STORED,
+    SLOT_BY_32,
+    SLOT_BY_64,
+    RESPONSE_BY_32,
+    RESPONSE_BY_64,
     /* Of the guest's half. */
     PUT_BY_THE_PAGE,
     REQ_EVENT_FIRST,

@@ -5,8 +5,8 @@
 
 /* The copy's page of the guest, and what `live` counts places from. */
 static uint8_t *begin(uint8_t *page) {
-    live = page - PAGE_BYTES * bench.front.port;
-    return copy + PAGE_BYTES * bench.front.port;
+    live = page - SHARE_BYTES * bench.front.port;
+    return copy + SHARE_BYTES * bench.front.port;
 }
 
 /* ---- putting */

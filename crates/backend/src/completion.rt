@@ -1,5 +1,5 @@
 // Completing a started request.
-use layout::ring_size;
+use layout::has_tag;
 use memory::WORDS;
 use model::Completed;
 use model::Pair;
@@ -48,7 +48,7 @@ fn release(memory: &mut [u64; WORDS], k: usize, t: u32, p: Port)
     memory::set_busy_marks(memory, k, marks::clear_mark(p.busy, t));
 }
 
-// Answers the request that tag x was started with, and releases the tag. Reads bytes 12 to 15 of the port's page, once.
+// Answers the request that tag x was started with, and releases the tag. Reads bytes 12 to 15 of the port's ring, once.
 fn finish(
     memory: &mut [u64; WORDS],
     rings: &mut [u8],
@@ -66,11 +66,12 @@ fn finish(
     let pair = x.pair;
     let params = p.params;
     let abi = params.abi;
-    let notify = response::respond(rings, k, abi, p.produced, pair, status);
+    let pages = params.pages;
+    let notify = response::respond(rings, k, abi, pages, p.produced, pair, status);
     Completed::Done(PortId(k as u32), status, notify)
 }
 
-// Completes a request of a port that is open or broken: the one that the tag and serial name. Reads the page only as `finish` does.
+// Completes a request of a port that is open or broken: the one that the tag and serial name. Reads the ring only as `finish` does.
 fn complete_named(
     memory: &mut [u64; WORDS],
     rings: &mut [u8],
@@ -84,12 +85,11 @@ fn complete_named(
 {
     let k = port.0 as usize;
     let t = tag.0;
-    let p = memory::port_at(memory, k);
-    let params = p.params;
-    let abi = params.abi;
-    if ring_size(abi) <= t {
+    // Tested before the port is read: that takes fewer instructions than the other way round.
+    if !has_tag(memory::pages(memory, k), t) {
         return Completed::Refused(NOT_BUSY);
     }
+    let p = memory::port_at(memory, k);
     if !marks::is_busy(p.busy, t) {
         return Completed::Refused(NOT_BUSY);
     }
@@ -101,7 +101,7 @@ fn complete_named(
     finish(memory, rings, k, t, p, x, result)
 }
 
-// Completes a started request with the host's result. Reads the page only as `finish` does.
+// Completes a started request with the host's result. Reads the ring only as `finish` does.
 pub fn complete(
     memory: &mut [u64; WORDS],
     rings: &mut [u8],

@@ -1,6 +1,7 @@
 // Opening and closing a port. Neither is lent a ring.
 use memory::WORDS;
 use model::Abi;
+use model::Pages;
 use model::Params;
 use model::Port;
 use model::PortId;
@@ -72,6 +73,7 @@ fn closed() -> Port
             sector: SectorSize::Bytes512,
             sectors: 0,
             abi: Abi::Bits64,
+            pages: Pages::One,
         },
         consumed: 0,
         produced: 0,

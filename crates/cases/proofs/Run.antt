@@ -9,7 +9,7 @@ use lib.ListN.{drop, replicate}
 use Rattle.wire.specs.LittleEndian.{load, store}
 use Rattle.wire.specs.Part.{part, setPart}
 use Rattle.model.specs.Base.{all, same, least, tally}
-use Rattle.model.specs.Buffers.{pageOf, setPage, grantsOf}
+use Rattle.model.specs.Buffers.{pagesOf, setPages, grantsOf}
 use Rattle.model.specs.Ring.{reqProd, setReqEvent, setRspProd, rspEvent, ringFor, slotAt, slotOf, segmentOf, segmentsOf, requestOf, setResponse, responsePair, responseStatus}
 use Rattle.model.specs.NodeSheet.{entryAt, bodyLength, entriesFrom, entriesOf, bodiesEnd, wellFormed, rising, isDigit, digitsFrom, capped, digitsOf, numberOf, choiceBody, numberBody, isSectorSize, isAllowed, bodyOf, afterBody, afterBodies, valueOf, absent, valuesOf, present, paramsOf, hasRequired, sheetOf}
 use Rattle.model.specs.Port.{isBusy, inFlightOf, lowestFree, distance, pendingOf}
@@ -23,6 +23,8 @@ use Rattle.model.specs.Backend.{Backend, emptyBackend, viewOf, withPort, withTa
 use Rattle.model.specs.History.{Response, Book, asked, said as saidIn, answerTo, book, unfinished, pairsOf, hasToServe, Seen, turnsOf, historyFrom, history}
 use Rattle.model.specs.Answers.{turnedNumber, turnedWords, completedNumber, completedWords, replyNumber}
 use Rattle.model.specs.declared.Pair.{Pair}
+use Rattle.model.specs.declared.Port.{Port}
+use Rattle.model.specs.declared.State.{State}
 use Rattle.model.specs.declared.Status.{Status}
 
 -- ---- buffers
@@ -35,12 +37,20 @@ sheet = 0x03 ∷ 0x01 ∷ 0x00 ∷ 0x01 ∷ 0x00 ∷ 0x06 ∷ 0x00 ∷ 0x03 ∷ 
 abbrev sheet32 : List ℕ
 sheet32 = 0x04 ∷ 0x01 ∷ 0x00 ∷ 0x01 ∷ 0x00 ∷ 0x06 ∷ 0x00 ∷ 0x03 ∷ 0x00 ∷ 0x07 ∷ 0x00 ∷ 0x04 ∷ 0x00 ∷ 0x08 ∷ 0x00 ∷ 0x0a ∷ 0x00 ∷ 0x77 ∷ 0x35 ∷ 0x31 ∷ 0x32 ∷ 0x32 ∷ 0x30 ∷ 0x30 ∷ 0x38 ∷ 0x78 ∷ 0x38 ∷ 0x36 ∷ 0x5f ∷ 0x33 ∷ 0x32 ∷ 0x2d ∷ 0x61 ∷ 0x62 ∷ 0x69 ∷ []
 
--- a page of slots of some bytes, with the id at a place: req_prod, rsp_event 2, and in slot i an operation on one segment, sectors 0 to 7 of frame 5, at a
--- start sector
+-- the first with the page order "1"
+abbrev sheetTwo : List ℕ
+sheetTwo = 0x04 ∷ 0x01 ∷ 0x00 ∷ 0x01 ∷ 0x00 ∷ 0x06 ∷ 0x00 ∷ 0x03 ∷ 0x00 ∷ 0x07 ∷ 0x00 ∷ 0x04 ∷ 0x00 ∷ 0x09 ∷ 0x00 ∷ 0x01 ∷ 0x00 ∷ 0x77 ∷ 0x35 ∷ 0x31 ∷ 0x32 ∷ 0x32 ∷ 0x30 ∷ 0x30 ∷ 0x38 ∷ 0x31 ∷ []
+
+-- the second with the page order "1"
+abbrev sheet32Two : List ℕ
+sheet32Two = 0x05 ∷ 0x01 ∷ 0x00 ∷ 0x01 ∷ 0x00 ∷ 0x06 ∷ 0x00 ∷ 0x03 ∷ 0x00 ∷ 0x07 ∷ 0x00 ∷ 0x04 ∷ 0x00 ∷ 0x08 ∷ 0x00 ∷ 0x0a ∷ 0x00 ∷ 0x09 ∷ 0x00 ∷ 0x01 ∷ 0x00 ∷ 0x77 ∷ 0x35 ∷ 0x31 ∷ 0x32 ∷ 0x32 ∷ 0x30 ∷ 0x30 ∷ 0x38 ∷ 0x78 ∷ 0x38 ∷ 0x36 ∷ 0x5f ∷ 0x33 ∷ 0x32 ∷ 0x2d ∷ 0x61 ∷ 0x62 ∷ 0x69 ∷ 0x31 ∷ []
+
+-- a port's share: a ring with slots of some bytes and the id at a place; req_prod, rsp_event 2, and in slot i an operation on one segment, sectors 0 to 7 of
+-- frame 5, at a start sector
 page : ℕ → ℕ → ℕ → ℕ → ℕ → ℕ → ℕ → List ℕ
 page bytes idAt produced i operation id start =
     let at = 64 + bytes * i in
-    let header = store 4 (store 4 (replicate 4096 0) 0 produced) 12 2 in
+    let header = store 4 (store 4 (replicate 8192 0) 0 produced) 12 2 in
     let request = store 8 (store 8 (store 1 (store 1 header at operation) (at + 1) 1) (at + idAt) id) (at + idAt + 8) start in
     store 1 (store 4 request (at + idAt + 16) 5) (at + idAt + 21) 7
 
@@ -58,11 +68,11 @@ grants = replicate 8192 2
 words : List ℕ
 words = replicate 44 9
 
--- the rings with pages of ports 2 and 3, the other pages zero
+-- the rings with the shares of ports 2 and 3, the others zero
 rings : List ℕ → List ℕ → List ℕ
-rings two three = replicate 8192 0 ++ (two ++ (three ++ replicate 16384 0))
+rings two three = replicate 16384 0 ++ (two ++ (three ++ replicate 32768 0))
 
--- a read of port 2, whose guest has 32 bits, and a write of port 3, whose guest has 64, wait
+-- a read of port 2, whose guest has 32 bits and one page, and a write of port 3, whose guest has 64 and two, wait
 both : List ℕ
 both = rings (page32 1 0 0 0x21 2000) (page64 1 0 1 0x31 2000)
 
@@ -70,13 +80,13 @@ both = rings (page32 1 0 0 0x21 2000) (page64 1 0 1 0x31 2000)
 unknown : List ℕ
 unknown = rings (page32 2 1 9 0x22 0) (page64 1 0 1 0x31 2000)
 
--- port 2 has another one waiting, and port 3's req_prod says too much
+-- port 2 has another one waiting, and port 3's req_prod says one request too many: 63 may wait beside the one in flight
 overfull : List ℕ
-overfull = rings (page32 3 2 9 0x24 0) (page64 50 0 0 0 0)
+overfull = rings (page32 3 2 9 0x24 0) (page64 65 0 0 0 0)
 
 -- port 2, opened once more and for a 64-bit guest, has a request waiting
 again : List ℕ
-again = rings (page64 1 0 0 0x23 2000) (page64 50 0 0 0 0)
+again = rings (page64 1 0 0 0x23 2000) (page64 65 0 0 0 0)
 
 -- ---- a history
 
@@ -84,7 +94,7 @@ again = rings (page64 1 0 0 0x23 2000) (page64 50 0 0 0 0)
 earlier : List Call
 earlier =
     Open (portId 2) sheet32
-    ∷ Open (portId 3) sheet
+    ∷ Open (portId 3) sheetTwo
     ∷ Open (portId 3) sheet32
     ∷ Open (portId 8) sheet
     -- an empty sheet; a node that does not rise; a text that is no mode; a number that is no sector size; nodes missing
@@ -103,7 +113,7 @@ earlier =
     ∷ Close (portId 2)
     ∷ Close (portId 8)
     ∷ Close (portId 4)
-    -- no rings; no port; a closed one; a tag above 31; a free one; another serial
+    -- no rings; no port; a closed one; a tag that the ring has not; a free one; another serial
     ∷ Complete [] (portId 9) (tagId 0) (serialOf 0) (pos 8)
     ∷ Complete unknown (portId 8) (tagId 0) (serialOf 0) (pos 8)
     ∷ Complete unknown (portId 4) (tagId 0) (serialOf 0) (pos 8)
@@ -242,18 +252,18 @@ computed :
           ∷ turnSeen true (some 2)
           ∷ [];
     }
-unfolding page rings grants words load store part setPart all same least tally pageOf setPage grantsOf reqProd setReqEvent setRspProd rspEvent ringFor slotAt slotOf segmentOf segmentsOf requestOf setResponse entryAt bodyLength entriesFrom entriesOf bodiesEnd wellFormed rising isDigit digitsFrom capped digitsOf numberOf choiceBody numberBody isSectorSize isAllowed bodyOf afterBody afterBodies valueOf absent valuesOf present paramsOf hasRequired sheetOf isBusy inFlightOf lowestFree distance pendingOf isEmptyBarrier movesNothing sectorsIn totalSectors countOf dataSegments isAligned isOnBoundaries isGranted unknownOperation featureOff readOnly wrongAmount isWithinFrame wrongSegment notGranted pastEnd unaligned operationChecks segmentChecks diskChecks checks extentsFrom extentsOf extentWords wordsBeside asksSecure isSecure planOf verdictOf pendingAt hasWork passedOver armed idle responded respondedAt notifies requestAt settled overran servedBy turned expectedOf statusOf completed openedBy dueOpen dueClose dueTurn namesNone refusedCompletion dueComplete effectDue viewOf withPort withTag withPointer does next both unknown overfull again earlier later inOrder historyFrom book answerTo unfinished asked saidIn responsePair turnsOf hasToServe responseStatus
+unfolding page rings grants words load store part setPart all same least tally pagesOf setPages grantsOf reqProd setReqEvent setRspProd rspEvent ringFor slotAt slotOf segmentOf segmentsOf requestOf setResponse entryAt bodyLength entriesFrom entriesOf bodiesEnd wellFormed rising isDigit digitsFrom capped digitsOf numberOf choiceBody numberBody isSectorSize isAllowed bodyOf afterBody afterBodies valueOf absent valuesOf present paramsOf hasRequired sheetOf isBusy inFlightOf lowestFree distance pendingOf isEmptyBarrier movesNothing sectorsIn totalSectors countOf dataSegments isAligned isOnBoundaries isGranted unknownOperation featureOff readOnly wrongAmount isWithinFrame wrongSegment notGranted pastEnd unaligned operationChecks segmentChecks diskChecks checks extentsFrom extentsOf extentWords wordsBeside asksSecure isSecure planOf verdictOf pendingAt hasWork passedOver armed idle responded respondedAt notifies requestAt settled overran servedBy turned expectedOf statusOf completed openedBy dueOpen dueClose dueTurn namesNone refusedCompletion dueComplete effectDue viewOf withPort withTag withPointer does next both unknown overfull again earlier later inOrder historyFrom book answerTo unfinished asked saidIn responsePair turnsOf hasToServe responseStatus
 computed = refl
 
 -- ---- bytes of the rings
 
 -- the rings with a request of port 3 waiting in slot 0, at a start sector
 lent : ℕ → ℕ → List ℕ
-lent produced start = rings (replicate 4096 0) (page64 produced 0 0 0x1122334455667788 start)
+lent produced start = rings (replicate 8192 0) (page64 produced 0 0 0x1122334455667788 start)
 
 -- the same of a 32-bit guest
 lent32 : ℕ → List ℕ
-lent32 start = rings (replicate 4096 0) (page32 1 0 0 0x1122334455667788 start)
+lent32 start = rings (replicate 8192 0) (page32 1 0 0 0x1122334455667788 start)
 
 -- the backend with port 3 open by a sheet, and a turn on it
 opened : List ℕ → Backend
@@ -262,9 +272,16 @@ opened s = afterCall emptyBackend (Open (portId 3) s)
 abbrev turn : List ℕ → List ℕ → Effect (Turn [] [] [])
 turn s r = turned (viewOf (opened s)) r grants
 
--- n bytes of the page that a turn left of port 3
+-- n bytes of the share that a turn left of port 3
 wrote : List ℕ → List ℕ → ℕ → ℕ → List ℕ
-wrote s r at n = part n (turn s r .rings) (4096 * 3 + at)
+wrote s r at n = part n (turn s r .rings) (8192 * 3 + at)
+
+-- the same where both indices of the port are 40, and the request that waits is in slot i of its share, whose slots have so many bytes
+wroteFar : (ℕ → ℕ → ℕ → ℕ → ℕ → List ℕ) → ℕ → List ℕ → ℕ → ℕ → List ℕ
+wroteFar share bytes s i n =
+    let p : Port = record { state = State.Open; params = opened s .port 3 .params; consumed = 40; produced = 40; busy = 0 } in
+    let r = rings (replicate 8192 0) (share 41 i 0 0x1122334455667788 2001) in
+    part n (turned (viewOf (withPort emptyBackend 3 p)) r grants .rings) (8192 * 3 + (64 + bytes * i))
 
 -- ---- what is computed
 
@@ -275,6 +292,10 @@ record Bytes : Type 0 where
   -- a 32-bit guest's, without padding: the start sector is the slot's next byte, and the segment's frame follows
   response32 : wrote sheet32 (lent32 2001) 64 24 ≡
       0x88 ∷ 0x77 ∷ 0x66 ∷ 0x55 ∷ 0x44 ∷ 0x33 ∷ 0x22 ∷ 0x11 ∷ 0x00 ∷ 0x00 ∷ 0xff ∷ 0xff ∷ 0xd1 ∷ 0x07 ∷ 0 ∷ 0 ∷ 0 ∷ 0 ∷ 0 ∷ 0 ∷ 5 ∷ 0 ∷ 0 ∷ 0 ∷ []
+  -- index 40 is in slot 8 of a ring of one page, and in slot 40 of one of two, of a 32-bit guest's too
+  farOne : wroteFar page64 112 sheet 8 12 ≡ 0x88 ∷ 0x77 ∷ 0x66 ∷ 0x55 ∷ 0x44 ∷ 0x33 ∷ 0x22 ∷ 0x11 ∷ 0x00 ∷ 0x00 ∷ 0xff ∷ 0xff ∷ []
+  farTwo : wroteFar page64 112 sheetTwo 40 12 ≡ 0x88 ∷ 0x77 ∷ 0x66 ∷ 0x55 ∷ 0x44 ∷ 0x33 ∷ 0x22 ∷ 0x11 ∷ 0x00 ∷ 0x00 ∷ 0xff ∷ 0xff ∷ []
+  farTwo32 : wroteFar page32 108 sheet32Two 40 12 ≡ 0x88 ∷ 0x77 ∷ 0x66 ∷ 0x55 ∷ 0x44 ∷ 0x33 ∷ 0x22 ∷ 0x11 ∷ 0x00 ∷ 0x00 ∷ 0xff ∷ 0xff ∷ []
   -- req_prod, req_event, rsp_prod, rsp_event after a response, and after an idle turn
   answeredHeader : wrote sheet (lent 1 2001) 0 16 ≡ 1 ∷ 0 ∷ 0 ∷ 0 ∷ 0 ∷ 0 ∷ 0 ∷ 0 ∷ 1 ∷ 0 ∷ 0 ∷ 0 ∷ 2 ∷ 0 ∷ 0 ∷ 0 ∷ []
   idleHeader : wrote sheet (lent 0 0) 0 16 ≡ 0 ∷ 0 ∷ 0 ∷ 0 ∷ 1 ∷ 0 ∷ 0 ∷ 0 ∷ 0 ∷ 0 ∷ 0 ∷ 0 ∷ 2 ∷ 0 ∷ 0 ∷ 0 ∷ []
@@ -283,5 +304,5 @@ record Bytes : Type 0 where
   extents32 : turn sheet32 (lent32 2000) .words ≡ 5 ∷ 0 ∷ 8 ∷ 2000 ∷ replicate 40 0
 
 bytes : Bytes
-unfolding lent lent32 opened wrote page rings grants words load store part setPart all same least tally pageOf setPage grantsOf reqProd setReqEvent setRspProd rspEvent ringFor slotAt slotOf segmentOf segmentsOf requestOf setResponse entryAt bodyLength entriesFrom entriesOf bodiesEnd wellFormed rising isDigit digitsFrom capped digitsOf numberOf choiceBody numberBody isSectorSize isAllowed bodyOf afterBody afterBodies valueOf absent valuesOf present paramsOf hasRequired sheetOf isBusy inFlightOf lowestFree distance pendingOf isEmptyBarrier movesNothing sectorsIn totalSectors countOf dataSegments isAligned isOnBoundaries isGranted unknownOperation featureOff readOnly wrongAmount isWithinFrame wrongSegment notGranted pastEnd unaligned operationChecks segmentChecks diskChecks checks extentsFrom extentsOf extentWords wordsBeside asksSecure isSecure planOf verdictOf pendingAt hasWork passedOver armed idle responded respondedAt notifies requestAt settled overran servedBy turned expectedOf statusOf completed openedBy dueOpen dueClose dueTurn namesNone refusedCompletion dueComplete effectDue viewOf withPort withTag withPointer does next
-bytes = record { response = refl; response32 = refl; answeredHeader = refl; idleHeader = refl; extents = refl; extents32 = refl }
+unfolding lent lent32 opened wrote wroteFar page rings grants words load store part setPart all same least tally pagesOf setPages grantsOf reqProd setReqEvent setRspProd rspEvent ringFor slotAt slotOf segmentOf segmentsOf requestOf setResponse entryAt bodyLength entriesFrom entriesOf bodiesEnd wellFormed rising isDigit digitsFrom capped digitsOf numberOf choiceBody numberBody isSectorSize isAllowed bodyOf afterBody afterBodies valueOf absent valuesOf present paramsOf hasRequired sheetOf isBusy inFlightOf lowestFree distance pendingOf isEmptyBarrier movesNothing sectorsIn totalSectors countOf dataSegments isAligned isOnBoundaries isGranted unknownOperation featureOff readOnly wrongAmount isWithinFrame wrongSegment notGranted pastEnd unaligned operationChecks segmentChecks diskChecks checks extentsFrom extentsOf extentWords wordsBeside asksSecure isSecure planOf verdictOf pendingAt hasWork passedOver armed idle responded respondedAt notifies requestAt settled overran servedBy turned expectedOf statusOf completed openedBy dueOpen dueClose dueTurn namesNone refusedCompletion dueComplete effectDue viewOf withPort withTag withPointer does next
+bytes = record { response = refl; response32 = refl; farOne = refl; farTwo = refl; farTwo32 = refl; answeredHeader = refl; idleHeader = refl; extents = refl; extents32 = refl }

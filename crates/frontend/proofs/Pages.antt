@@ -13,16 +13,17 @@ use Rattle.wire.proofs.Part.{length-setPart, part-setPart, getD-part, getD-setP
 use Rattle.model.specs.Port.{after}
 use Rattle.model.specs.Ring.{headerSize, slotBytes, ringFor, slotAt, setReqProd, reqEvent}
 use Rattle.model.specs.declared.Abi.{Abi}
+use Rattle.model.specs.declared.Pages.{Pages}
 use Rattle.model.proofs.Ring.{fits-for, slotAt-room, slotAt-header}
 use Rattle.ring.specs.Copy.{Copied}
 use Rattle.frontend.specs.Guest.{guestPage, guestRing, putPage}
 
 pub slot-room : (i : ℕ) → slotAt guestRing i + slotBytes ≤ guestPage
 unfolding ringFor
-slot-room i = slotAt-room guestRing (fits-for Abi.Bits64) i
+slot-room i = slotAt-room guestRing (fits-for Abi.Bits64 Pages.One) i
 
 pub slot-header : (i : ℕ) → headerSize ≤ slotAt guestRing i
-slot-header i = slotAt-header guestRing (fits-for Abi.Bits64) i
+slot-header i = slotAt-header guestRing (fits-for Abi.Bits64 Pages.One) i
 
 -- bytes copied one by one, from the first to the last, are a part put
 module _ (n : ℕ) (slot page left : List ℕ) (at : ℕ) (sized : length slot ≡ n) (room : at + n ≤ length page) (kept : length left ≡ length page)

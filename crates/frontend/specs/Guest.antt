@@ -7,10 +7,11 @@ use lib.Dec.{eqb, ltb, leb}
 use lib.ListN.{length, getD, set, take, replicate}
 use Rattle.wire.specs.Part.{setPart}
 use Rattle.model.specs.Base.{_⇒_, firstOf, least}
-use Rattle.model.specs.Ring.{Ring, Request, ringFor, ringSlots, slotBytes, slotAt, setReqProd, reqEvent, rspProd, setRspEvent, responsePair, responseStatus}
+use Rattle.model.specs.Ring.{Ring, Request, ringFor, pageBytes, pageSlots, slotBytes, slotAt, setReqProd, reqEvent, rspProd, setRspEvent, responsePair, responseStatus}
 use Rattle.model.specs.Port.{distance, after}
 use Rattle.model.specs.declared.Abi.{Abi}
 use Rattle.model.specs.declared.Collected.{Collected}
+use Rattle.model.specs.declared.Pages.{Pages}
 use Rattle.model.specs.declared.Pair.{Pair}
 use Rattle.model.specs.declared.Put.{Put}
 use Rattle.asking.specs.Request.{isBad}
@@ -18,12 +19,12 @@ use Rattle.asking.specs.Slot.{slotFor}
 
 -- ---- the page
 
--- its bytes, which are a guest's own number, whatever a port's share of the rings has; and the ring in it (rule 16.1)
+-- its bytes: a guest's ring has one page, whatever a backend's rings may have; and the ring in it (rule 16.1)
 abbrev pub guestPage : ℕ
-guestPage = 4096
+guestPage = pageBytes
 
 abbrev pub guestRing : Ring
-guestRing = ringFor Abi.Bits64
+guestRing = ringFor Abi.Bits64 Pages.One
 
 -- a page as a guest begins with (rule 16.1)
 abbrev pub zeroPage : List ℕ
@@ -45,7 +46,7 @@ freshGuest = record { put = 0; collected = 0; outstanding = [] }
 
 -- as many requests may be outstanding as the ring has slots (rule 16.2)
 abbrev pub mostOutstanding : ℕ
-mostOutstanding = ringSlots
+mostOutstanding = pageSlots
 
 abbrev pub noPair : Pair
 noPair = record { id = 0; operation = 0 }

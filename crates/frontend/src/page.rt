@@ -7,6 +7,7 @@ use layout::RSP_EVENT;
 use layout::RSP_PROD;
 use layout::SLOT_BYTES;
 use model::Abi;
+use model::Pages;
 use model::Pair;
 ghost use mathlib.Core.Path.{_≡_};
 ghost use Prim.Native.Nat.{_+_, _≤_};
@@ -40,7 +41,7 @@ pub fn publish(page: &mut [u8], i: u32, slot: &[u8; SLOT_BYTES]) -> bool
     ensures { λ r. ⌜ (now (page .exit) ≡ putPage (now (page .entry)) i (now (slot .entry))) × (r ≡ eqb (reqEvent (now (page .entry))) (after i)) ⌝ }
 {
     let next = ring::next_index(i);
-    put_slot(page, ring::slot_at(Abi::Bits64, i), slot);
+    put_slot(page, ring::slot_at(Abi::Bits64, Pages::One, i), slot);
     put_req_prod(page, next);
     wire::u32_at(page, REQ_EVENT) == next
 }
@@ -66,7 +67,7 @@ pub fn response_pair(page: &[u8], i: u32) -> Pair
     requires { ⌜ length (now page) ≡ guestPage ⌝ }
     ensures { λ r. ⌜ r ≡ responsePair (now (page .entry)) (slotAt guestRing i) ⌝ }
 {
-    let at = ring::slot_at(Abi::Bits64, i);
+    let at = ring::slot_at(Abi::Bits64, Pages::One, i);
     Pair {
         id: wire::u64_at(page, at),
         operation: page[at + RESPONSE_OPERATION],
@@ -78,5 +79,8 @@ pub fn response_status(page: &[u8], i: u32) -> u16
     requires { ⌜ length (now page) ≡ guestPage ⌝ }
     ensures { λ r. ⌜ r ≡ responseStatus (now (page .entry)) (slotAt guestRing i) ⌝ }
 {
-    wire::u16_at(page, ring::slot_at(Abi::Bits64, i) + RESPONSE_STATUS)
+    wire::u16_at(
+        page,
+        ring::slot_at(Abi::Bits64, Pages::One, i) + RESPONSE_STATUS,
+    )
 }

@@ -1,7 +1,7 @@
 // A guest's memory: its two indices, and its outstanding requests. Reading is total: no content of the words is wrong (rule 16.16).
 //
 // 0 put · 1 collected · 2 how many are outstanding · from IDS their ids · from OPERATIONS their operations
-use layout::SLOTS;
+use layout::PAGE_SLOTS;
 use model::Pair;
 use model::buffer::GUEST_WORDS;
 ghost use mathlib.Core.Path.{_≡_};
@@ -21,7 +21,7 @@ const IDS: usize = 3;
 const OPERATIONS: usize = IDS + MOST;
 
 // As many requests may be outstanding as the ring has slots.
-pub const MOST: usize = SLOTS as usize;
+pub const MOST: usize = PAGE_SLOTS as usize;
 
 // The values of an index: its word is taken modulo that.
 const VALUES_32: u64 = 4294967296;

@@ -12,7 +12,7 @@ use lib.Dec.{ltb}
 use lib.IntN.{ℤ}
 use lib.ListN.{length}
 use Rattle.wire.proofs.LittleEndian.{load-agree, load-store-below, load-store-above, load-store-lt}
-use Rattle.model.specs.Buffers.{ports, ringsLength, areRings, areGrants, pageOf}
+use Rattle.model.specs.Buffers.{ports, ringsLength, areRings, areGrants, pagesOf}
 use Rattle.model.specs.Calls.{Call, Open, Close, Turn, Complete, TurnEffect, CompleteEffect, Effect, Event}
 use Rattle.model.specs.Complete.{completed}
 use Rattle.model.specs.Port.{View, isClosed, isOpen, after}
@@ -30,11 +30,12 @@ use Rattle.model.specs.declared.TagId.{TagId}
 use Rattle.model.specs.declared.Turned.{Turned}
 use Rattle.model.specs.declared.Verdict.{Verdict}
 use Rattle.model.proofs.Base.{by-cond, clash}
-use Rattle.model.proofs.Page.{length-pageOf, pageOf-setPage, pageOf-other, getD-responded}
+use Rattle.model.proofs.Page.{length-pagesOf, pagesOf-setPages, pagesOf-other, getD-responded}
+use Rattle.model.proofs.Ring.{fits}
 use Rattle.frontend.specs.Guest.{guestPage, guestRing, putPage}
 use Rattle.frontend.proofs.Pages.{slot-header}
-use Rattle.halves.proofs.Page.{guest-fits, put-outside, quiet-reqEvent}
-use Rattle.halves.proofs.Left.{armed-all}
+use Rattle.halves.proofs.Page.{guest-fits, guest-bytes, put-outside, quiet-reqEvent}
+use Rattle.halves.proofs.Left.{armed-alike, armed-all}
 
 -- ---- the two events in a page
 
@@ -67,7 +68,7 @@ module _ (page : List ℕ) (sized : length page ≡ guestPage) where
   unfolding reqEvent
   req-responded i q z =
       load-agree 4 (responded guestRing page i q z) page 4
-      (λ m l. getD-responded guestRing guest-fits page i q z sized (4 + m) (λ u v. omega arith) (λ u v. omega (arith, slot-header i)))
+      (λ m l. getD-responded guestRing guest-fits page i q z (guest-bytes page sized) (4 + m) (λ u v. omega arith) (λ u v. omega (arith, slot-header i)))
 
 -- ---- an idle turn
 
@@ -90,40 +91,46 @@ module _ (page : List ℕ) (sized : length page ≡ guestPage) (c : ℕ) where
 
 module _ (v : View) (rings : List ℕ) (k : ℕ) (small : k < ports) (sized : length rings ≡ ringsLength) where
   -- another port's arming leaves the page
-  arm-other : (left : List ℕ) (j c : ℕ) → j < ports → length left ≡ ringsLength → k ≢ j → (s : State) → pageOf (armedPort s left j c) k ≡ pageOf left k
+  arm-other : (left : List ℕ) (j c : ℕ) → j < ports → length left ≡ ringsLength → k ≢ j → (s : State)
+      → pagesOf guestRing (armedPort (ringAt v j) s left j c) k ≡ pagesOf guestRing left k
   arm-other left j c there long ne State.Closed = refl
   arm-other left j c there long ne State.Open =
-      pageOf-other left j long there _ (quiet-reqEvent (pageOf left j) (after c) .long ∙ length-pageOf left j long there) k small ne
+      let g = ringAt v j in
+      let f = fits (v .params j) in
+      pagesOf-other g f left j long there _ (quiet-reqEvent (pagesOf g left j) (after c) .long ∙ length-pagesOf g f left j long there) guestRing guest-fits k small ne
   arm-other left j c there long ne State.Broken = refl
 
-  arm-own : (left : List ℕ) (c : ℕ) → length left ≡ ringsLength → (s : State) → pageOf (armedPort s left k c) k ≡ armedPage s (pageOf left k) c
+  arm-own : (left : List ℕ) (c : ℕ) → length left ≡ ringsLength → (s : State)
+      → pagesOf guestRing (armedPort (ringAt v k) s left k c) k ≡ armedPage s (pagesOf guestRing left k) c
   arm-own left c long State.Closed = refl
-  arm-own left c long State.Open = pageOf-setPage left k long small _ (quiet-reqEvent (pageOf left k) (after c) .long ∙ length-pageOf left k long small)
+  arm-own left c long State.Open =
+      ap (λ (x : List ℕ). pagesOf guestRing x k) (sym (armed-alike (v .params k) left k c long small))
+      ∙ pagesOf-setPages guestRing guest-fits left k long small _ (quiet-reqEvent (pagesOf guestRing left k) (after c) .long ∙ length-pagesOf guestRing guest-fits left k long small)
   arm-own left c long State.Broken = refl
 
   -- before its turn to be armed, and after
-  arm-before : (n : ℕ) → n ≤ k → pageOf (armed v rings n) k ≡ pageOf rings k
+  arm-before : (n : ℕ) → n ≤ k → pagesOf guestRing (armed v rings n) k ≡ pagesOf guestRing rings k
   unfolding armed
   arm-before zero l = refl
   arm-before (suc n) l =
       arm-other (armed v rings n) n (v .consumed n) (omega arith) (armed-all v rings k small sized n (omega arith) .long) (λ e. omega arith) (v .state n)
       ∙ arm-before n (omega arith)
 
-  arm-after : (n : ℕ) → n ≤ ports → k < n → pageOf (armed v rings n) k ≡ armedPage (v .state k) (pageOf rings k) (v .consumed k)
+  arm-after : (n : ℕ) → n ≤ ports → k < n → pagesOf guestRing (armed v rings n) k ≡ armedPage (v .state k) (pagesOf guestRing rings k) (v .consumed k)
   unfolding armed
   arm-after zero l r = absurd (omega arith)
   arm-after (suc n) l r =
       let long = armed-all v rings k small sized n (omega arith) .long in
       elim (ℕ-discrete k n) [
         | yes e ↦
-            subst (λ (j : ℕ). pageOf (armedPort (v .state j) (armed v rings j) j (v .consumed j)) k ≡ armedPage (v .state k) (pageOf rings k) (v .consumed k)) e
+            subst (λ (j : ℕ). pagesOf guestRing (armedPort (ringAt v j) (v .state j) (armed v rings j) j (v .consumed j)) k ≡ armedPage (v .state k) (pagesOf guestRing rings k) (v .consumed k)) e
             (arm-own (armed v rings k) (v .consumed k) (armed-all v rings k small sized k (omega arith) .long) (v .state k)
             ∙ ap (λ (x : List ℕ). armedPage (v .state k) x (v .consumed k)) (arm-before k (omega arith)))
         | no e ↦ arm-other (armed v rings n) n (v .consumed n) (omega arith) long e (v .state n) ∙ arm-after n (omega arith) (omega arith)
       ]
 
   -- the page that an idle turn leaves
-  pub idle-page : pageOf (armed v rings ports) k ≡ armedPage (v .state k) (pageOf rings k) (v .consumed k)
+  pub idle-page : pagesOf guestRing (armed v rings ports) k ≡ armedPage (v .state k) (pagesOf guestRing rings k) (v .consumed k)
   idle-page = arm-after ports (omega arith) small
 
 -- an idle turn looked at every port

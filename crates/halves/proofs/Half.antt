@@ -8,7 +8,7 @@ use native.Mathlib.Omega.{arith}
 use lib.ListN.{length, getD, take, replicate, length-map, length-reverse, List·getD-append}
 use lib.Seq.{take-suc, take-append-le, getD-at}
 use Rattle.model.specs.Base.{modulus}
-use Rattle.model.specs.Buffers.{pageOf}
+use Rattle.model.specs.Buffers.{pagesOf}
 use Rattle.model.specs.Demand.{All, count}
 use Rattle.model.specs.History.{Named, Response, Taken, Book, ringIn, asked, said, inState, withLines, pairsOf, pairsSaid}
 use Rattle.model.specs.Port.{distance, after}
@@ -121,15 +121,15 @@ module _ {g : Guest} {page : List ℕ} {put : List Request} {collected : List Ga
   }
 
   -- the next slot is taken
-  pub half-take : (k : ℕ) (lent : List ℕ) (w : Named) (a : List Response) → pageOf lent k ≡ page → length (b .taken) < length put
+  pub half-take : (k : ℕ) (lent : List ℕ) (w : Named) (a : List Response) → pagesOf guestRing lent k ≡ page → length (b .taken) < length put
       → Half g page put collected (withLines (record { pair = asked k lent b; named = w; answers = a } ∷ b .taken) (b .answered) b)
-      (slots ++ (slotOf (ringIn b) (pageOf lent k) (length (b .taken)) ∷ []))
+      (slots ++ (slotOf (ringIn b) (pagesOf (ringIn b) lent k) (length (b .taken)) ∷ []))
   unfolding asked
   half-take k lent w a here l =
       let T = length (b .taken) in
       let all = map slotFor put in
-      let slot = slotOf (ringIn b) (pageOf lent k) T in
-      let is : slot ≡ getD all T [] = rw (here, h .ring) (h .holds .waiting T (omega arith) l) in
+      let slot = slotOf (ringIn b) (pagesOf (ringIn b) lent k) T in
+      let is : slot ≡ getD all T [] = rw (h .ring, here) (h .holds .waiting T (omega arith) l) in
       let reads : requestOf (ringIn b .layout) slot ≡ readSlot slot = ap (λ (r : Ring). requestOf (r .layout) slot) (h .ring) ∙ guest-reads slot in
       record {
         mine = h .mine;
@@ -151,17 +151,17 @@ module _ {g : Guest} {page : List ℕ} {put : List Request} {collected : List Ga
 
   -- a response is given
   pub half-respond : (k : ℕ) (left : List ℕ) (q : Pair) (z : Status) (l : List Taken) → length l ≡ length (b .taken) → pairsOf l ≡ pairsOf (b .taken)
-      → pageOf left k ≡ responded guestRing page (length (b .answered) % modulus) q z → length (b .answered) < length (b .taken)
-      → Half g (pageOf left k) put collected (withLines l (said k left z b ∷ b .answered) b) slots
+      → pagesOf guestRing left k ≡ responded guestRing page (length (b .answered) % modulus) q z → length (b .answered) < length (b .taken)
+      → Half g (pagesOf guestRing left k) put collected (withLines l (said k left z b ∷ b .answered) b) slots
   unfolding said
   half-respond k left q z l long pairs here low =
       let A = length (b .answered) in
       let new = withLines l (said k left z b ∷ b .answered) b in
       let x = toGather (said k left z b) in
-      let same : x ≡ record { pair = responsePair (pageOf left k) (slotAt guestRing A); status = statusBits z } = rw (h .ring) in
+      let same : x ≡ record { pair = responsePair (pagesOf guestRing left k) (slotAt guestRing A); status = statusBits z } = rw (h .ring) in
       let more : givenIn new ≡ givenIn b ++ (x ∷ []) = reverse-cons x (map toGather (b .answered)) in
       let page' =
-      page-responded (h .holds) (h .unread) low (h .behind) (omega (arith, put-count (h .mine), h .mine .few)) q z (pageOf left k) here
+      page-responded (h .holds) (h .unread) low (h .behind) (omega (arith, put-count (h .mine), h .mine .few)) q z (pagesOf guestRing left k) here
       (λ i. getD (givenIn new) i none)
       (λ i m. ap (λ (s : List Gathered). getD s i none) more ∙ List·getD-append (givenIn b) (x ∷ []) none i (omega (arith, given-length b)))
       (ap (λ (s : List Gathered). getD s A none) more ∙ getD-at (givenIn b) x [] none A (given-length b) ∙ same) in

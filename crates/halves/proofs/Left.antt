@@ -10,15 +10,16 @@ use native.Mathlib.Omega.{arith}
 use lib.Dec.{ltb}
 use lib.IntN.{ℤ}
 use lib.ListN.{length}
-use Rattle.model.specs.Buffers.{ports, pageShare, ringsLength, areRings, areGrants, pageOf, setPage}
+use Rattle.model.specs.Buffers.{ports, ringsLength, areRings, areGrants, pagesOf, setPages}
 use Rattle.model.specs.Calls.{Call, Open, Close, Turn, Complete, TurnEffect, CompleteEffect, Effect, Event}
 use Rattle.model.specs.Complete.{completed}
 use Rattle.model.specs.Port.{View, isClosed, after}
-use Rattle.model.specs.Ring.{setReqEvent}
+use Rattle.model.specs.Ring.{setReqEvent, ringOf}
 use Rattle.model.specs.Rules.{noPort, dueTurn, namesNone, tagOf, refusedCompletion, dueComplete, effectDue, due}
 use Rattle.model.specs.Turn.{ringAt, pendingAt, passedOver, armedPort, armed, idle, respondedAt, requestAt, settled, overran, servedBy, turned}
 use Rattle.model.specs.declared.Completed.{Completed}
 use Rattle.model.specs.declared.Pair.{Pair}
+use Rattle.model.specs.declared.Params.{Params}
 use Rattle.model.specs.declared.Pending.{Pending}
 use Rattle.model.specs.declared.PortId.{PortId}
 use Rattle.model.specs.declared.Serial.{Serial}
@@ -29,9 +30,10 @@ use Rattle.model.specs.declared.Turned.{Turned}
 use Rattle.model.specs.declared.Verdict.{Verdict}
 use Rattle.model.proofs.Base.{by-cond}
 use Rattle.model.proofs.DueFacts.{AnsweredNow, Finished}
-use Rattle.model.proofs.Page.{length-pageOf, pageOf-setPage, length-setPage, pageOf-other, length-responded}
-use Rattle.model.proofs.Ring.{fits}
-use Rattle.halves.proofs.Page.{Quiet, quiet-refl, quiet-trans, quiet-reqEvent}
+use Rattle.model.proofs.Page.{length-pagesOf, pagesOf-setPages, length-setPages, pagesOf-other, req-event-at, length-responded}
+use Rattle.model.proofs.Ring.{fits, header-room}
+use Rattle.frontend.specs.Guest.{guestRing}
+use Rattle.halves.proofs.Page.{guest-fits, Quiet, quiet-refl, quiet-trans, quiet-reqEvent}
 
 -- ---- the rings
 
@@ -108,42 +110,53 @@ finished-left v rings left k t s z f = f .written ∙ ap (λ (x : Status). respo
 
 -- ---- one port's page
 
+-- a port is armed alike, whatever its ring: its header stands where every header does
+pub armed-alike : (p : Params) (left : List ℕ) (j c : ℕ) → length left ≡ ringsLength → j < ports
+    → armedPort guestRing State.Open left j c ≡ armedPort (ringOf p) State.Open left j c
+armed-alike p left j c long there =
+    let f = fits p in
+    sym (req-event-at guestRing (header-room guestRing guest-fits) (guest-fits .within) left j long there (after c))
+    ∙ req-event-at (ringOf p) (header-room (ringOf p) f) (f .within) left j long there (after c)
+
 module _ (v : View) (rings : List ℕ) (k : ℕ) (small : k < ports) (sized : length rings ≡ ringsLength) where
   -- another port's response leaves it
-  pub responded-other : (j : ℕ) (q : Pair) (z : Status) → j < ports → k ≢ j → pageOf (respondedAt v rings j q z) k ≡ pageOf rings k
+  pub responded-other : (j : ℕ) (q : Pair) (z : Status) → j < ports → k ≢ j → pagesOf guestRing (respondedAt v rings j q z) k ≡ pagesOf guestRing rings k
   unfolding respondedAt
   responded-other j q z there ne =
-      let long = length-responded (ringAt v j) (fits (v .params j)) (pageOf rings j) (v .produced j) q z (length-pageOf rings j sized there) in
-      pageOf-other rings j sized there _ long k small ne
+      let g = ringAt v j in
+      let f = fits (v .params j) in
+      let long = length-responded g f (pagesOf g rings j) (v .produced j) q z (length-pagesOf g f rings j sized there) in
+      pagesOf-other g f rings j sized there _ long guestRing guest-fits k small ne
 
   -- rings in which the port's page has other events
   pub record Armed (left : List ℕ) : Type 0 where
     pub long : length left ≡ ringsLength
-    quiet : Quiet (pageOf rings k) (pageOf left k)
+    quiet : Quiet (pagesOf guestRing rings k) (pagesOf guestRing left k)
 
-  armed-port : (left : List ℕ) (j c : ℕ) → j < ports → Armed left → (s : State) → Armed (armedPort s left j c)
+  armed-port : (left : List ℕ) (j c : ℕ) → j < ports → Armed left → (s : State) → Armed (armedPort (ringAt v j) s left j c)
   armed-port left j c there a State.Closed = a
   armed-port left j c there a State.Broken = a
   armed-port left j c there a State.Open =
-      let new = setReqEvent (pageOf left j) (after c) in
-      let q : Quiet (pageOf left j) new = quiet-reqEvent (pageOf left j) (after c) in
-      let size : length new ≡ pageShare = q .long ∙ length-pageOf left j (a .long) there in
-      record {
-        long = length-setPage left j (a .long) there new size ∙ a .long;
+      let new = setReqEvent (pagesOf guestRing left j) (after c) in
+      let q : Quiet (pagesOf guestRing left j) new = quiet-reqEvent (pagesOf guestRing left j) (after c) in
+      let size : length new ≡ guestRing .bytes = q .long ∙ length-pagesOf guestRing guest-fits left j (a .long) there in
+      subst Armed (armed-alike (v .params j) left j c (a .long) there)
+      (record {
+        long = length-setPages guestRing guest-fits left j (a .long) there new size ∙ a .long;
         quiet =
             elim (ℕ-discrete k j) [
               | yes e ↦
-                  quiet-trans (a .quiet) (subst (λ (i : ℕ). Quiet (pageOf left i) (pageOf (setPage left j new) i)) (sym e)
-                  (rw (pageOf-setPage left j (a .long) there new size) q))
-              | no e ↦ rw (pageOf-other left j (a .long) there new size k small e) (a .quiet)
+                  quiet-trans (a .quiet) (subst (λ (i : ℕ). Quiet (pagesOf guestRing left i) (pagesOf guestRing (setPages guestRing left j new) i)) (sym e)
+                  (rw (pagesOf-setPages guestRing guest-fits left j (a .long) there new size) q))
+              | no e ↦ rw (pagesOf-other guestRing guest-fits left j (a .long) there new size guestRing guest-fits k small e) (a .quiet)
             ];
-      }
+      })
 
   pub armed-all : (n : ℕ) → n ≤ ports → Armed (armed v rings n)
   unfolding armed
-  armed-all zero l = record { long = sized; quiet = quiet-refl (pageOf rings k) }
+  armed-all zero l = record { long = sized; quiet = quiet-refl (pagesOf guestRing rings k) }
   armed-all (suc n) l = armed-port (armed v rings n) n (v .consumed n) (omega arith) (armed-all n (omega arith)) (v .state n)
 
   -- an idle turn writes its req_event alone
-  pub idle-quiet : Quiet (pageOf rings k) (pageOf (armed v rings ports) k)
+  pub idle-quiet : Quiet (pagesOf guestRing rings k) (pagesOf guestRing (armed v rings ports) k)
   idle-quiet = armed-all ports (omega arith) .quiet

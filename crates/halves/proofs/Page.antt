@@ -17,6 +17,7 @@ use Rattle.model.specs.Port.{after}
 use Rattle.model.specs.Ring.{slotBytes, ringFor, reqProd, setReqEvent, setReqProd, rspProd, setRspEvent, slotAt, slotOf, requestOf, statusBits, responsePair, responseStatus}
 use Rattle.model.specs.Turn.{responded}
 use Rattle.model.specs.declared.Abi.{Abi}
+use Rattle.model.specs.declared.Pages.{Pages}
 use Rattle.model.specs.declared.Pair.{Pair}
 use Rattle.model.specs.declared.Status.{Status}
 use Rattle.model.proofs.Page.{length-responded, status-responded, rspProd-responded, getD-responded, bytes-responded}
@@ -51,7 +52,12 @@ unfolding ringFor
 guest-reads slot = refl
 
 pub guest-fits : Fits guestRing
-guest-fits = fits-for Abi.Bits64
+guest-fits = fits-for Abi.Bits64 Pages.One
+
+-- its ring has the bytes of a page
+pub guest-bytes : (page : List ℕ) → length page ≡ guestPage → length page ≡ guestRing .bytes
+unfolding ringFor
+guest-bytes page e = e
 
 abbrev at : ℕ → ℕ
 at i = slotAt guestRing i

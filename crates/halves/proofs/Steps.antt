@@ -10,7 +10,7 @@ use lib.Dec.{eqb, leb}
 use lib.ListN.{length}
 use borrow.Author.Tests.{leb-false, eqb-true, eqb-false, eq-eqb, ne-eqb}
 use Rattle.model.specs.Base.{modulus}
-use Rattle.model.specs.Buffers.{ports, ringsLength, pageOf}
+use Rattle.model.specs.Buffers.{ports, ringsLength, pagesOf, setPages}
 use Rattle.model.specs.Calls.{Event}
 use Rattle.model.specs.Complete.{expectedOf}
 use Rattle.model.specs.Deeds.{Deed, opening, closing, breaking, starting, answering, finishing, portOf, paramsIn, openDeeds, closeDeeds, turnDeeds, completeDeeds}
@@ -18,7 +18,7 @@ use Rattle.model.specs.History.{atOnce, started, said, answerTo, entry, posts, 
 use Rattle.model.specs.NodeSheet.{sheetOf}
 use Rattle.model.specs.Port.{isClosed, isOpen, distance, pendingOf, isWork}
 use Rattle.model.specs.Ring.{Request, ringFor}
-use Rattle.model.specs.Turn.{ringAt, pendingAt, hasWork, responded, respondedAt}
+use Rattle.model.specs.Turn.{pendingAt, hasWork, responded, respondedAt}
 use Rattle.model.specs.declared.Completed.{Completed}
 use Rattle.model.specs.declared.Pair.{Pair}
 use Rattle.model.specs.declared.Pending.{Pending}
@@ -33,12 +33,11 @@ use Rattle.model.proofs.Base.{by-cond, clash, and-right}
 use Rattle.model.proofs.Conservation.{Sound, numbers}
 use Rattle.model.proofs.DueFacts.{Chosen, chosen-lt, Started, AnsweredNow, Finished, TurnFacts, CompleteFacts}
 use Rattle.model.proofs.Ledger.{length-answerTo, pairs-answerTo}
-use Rattle.model.proofs.Page.{length-pageOf, pageOf-setPage, length-responded}
+use Rattle.model.proofs.Page.{length-pagesOf, pagesOf-setPages, length-responded}
 use Rattle.model.proofs.Permitted.{view-ring, view-consumed, view-produced, view-inFlight, view-state, chosen-open}
-use Rattle.model.proofs.Ring.{fits}
 use Rattle.frontend.specs.Guest.{guestRing, Guest}
 use Rattle.halves.specs.System.{Gathered, took, tookAll}
-use Rattle.halves.proofs.Page.{Quiet, quiet-refl}
+use Rattle.halves.proofs.Page.{guest-fits, Quiet, quiet-refl}
 use Rattle.halves.proofs.Half.{Half, put-count, half-quiet, half-state, half-take, half-respond, modular, answered-le}
 use Rattle.halves.proofs.Left.{TurnLeft, CompleteLeft, answered-left, finished-left, responded-other, idle-quiet}
 
@@ -87,15 +86,15 @@ module _ (k : ℕ) (small : k < ports) (h : List Event) {g : Guest} {page : List
       go true c = subst P (eqb-true k j c) own
       go false c = other (eqb-false k j c)
 
-  unmoved : (left rings : List ℕ) → pageOf rings k ≡ page → pageOf left k ≡ pageOf rings k → Quiet page (pageOf left k)
+  unmoved : (left rings : List ℕ) → pagesOf guestRing rings k ≡ page → pagesOf guestRing left k ≡ pagesOf guestRing rings k → Quiet page (pagesOf guestRing left k)
   unmoved left rings here e = rw (e, here) (quiet-refl page)
 
-  same-rings : (left rings : List ℕ) → pageOf rings k ≡ page → left ≡ rings → Quiet page (pageOf left k)
-  same-rings left rings here e = unmoved left rings here (ap (λ (x : List ℕ). pageOf x k) e)
+  same-rings : (left rings : List ℕ) → pagesOf guestRing rings k ≡ page → left ≡ rings → Quiet page (pagesOf guestRing left k)
+  same-rings left rings here e = unmoved left rings here (ap (λ (x : List ℕ). pagesOf guestRing x k) e)
 
   -- ---- what the rules see of the port
 
-  module _ (rings : List ℕ) (here : pageOf rings k ≡ page) where
+  module _ (rings : List ℕ) (here : pagesOf guestRing rings k ≡ page) where
     -- the distance is that of the counts
     pub pending-is : isClosed (book k h .state) ≡ false
         → pendingAt (viewAt h) rings k ≡ pendingOf (guestRing .size) (length (unfinished (book k h .taken))) (length put - length (book k h .taken))
@@ -121,27 +120,28 @@ module _ (k : ℕ) (small : k < ports) (h : List Event) {g : Guest} {page : List
 
     -- the page after a response of its own
     pub responded-here : (left : List ℕ) (q : Pair) (z : Status) → isClosed (book k h .state) ≡ false → length rings ≡ ringsLength
-        → left ≡ respondedAt (viewAt h) rings k q z → pageOf left k ≡ responded guestRing page (length (book k h .answered) % modulus) q z
+        → left ≡ respondedAt (viewAt h) rings k q z → pagesOf guestRing left k ≡ responded guestRing page (length (book k h .answered) % modulus) q z
     unfolding respondedAt
     responded-here left q z opened sized e =
-        let r = ringAt (viewAt h) k in
-        let i = viewAt h .produced k in
-        let long = length-responded r (fits (viewAt h .params k)) (pageOf rings k) i q z (length-pageOf rings k sized small) in
-        ap (λ (x : List ℕ). pageOf x k) e
-        ∙ pageOf-setPage rings k sized small (responded r (pageOf rings k) i q z) long
-        ∙ rw (view-ring k h opened, w .ring, view-produced k h opened, here)
+        let i = length (book k h .answered) % modulus in
+        let new = responded guestRing (pagesOf guestRing rings k) i q z in
+        let long = length-responded guestRing guest-fits (pagesOf guestRing rings k) i q z (length-pagesOf guestRing guest-fits rings k sized small) in
+        let put : left ≡ setPages guestRing rings k new = rw (view-ring k h opened, w .ring, view-produced k h opened) at e in
+        ap (λ (x : List ℕ). pagesOf guestRing x k) put
+        ∙ pagesOf-setPages guestRing guest-fits rings k sized small new long
+        ∙ ap (λ (x : List ℕ). responded guestRing x i q z) here
 
     -- ---- its own deeds
 
-    own-start : (t s x : ℕ) → Chosen (viewAt h) rings k → (left : List ℕ) → left ≡ rings → After (pageOf left k) (starting k rings t s x ∷ [])
+    own-start : (t s x : ℕ) → Chosen (viewAt h) rings k → (left : List ℕ) → left ≡ rings → After (pagesOf guestRing left k) (starting k rings t s x ∷ [])
     own-start t s x f left e =
-        after-own (pageOf left k) (starting k rings t s x) refl
-        (half-quiet (half-take w k rings (started t s x) [] here (chosen-some f)) (pageOf left k) (same-rings left rings here e))
+        after-own (pagesOf guestRing left k) (starting k rings t s x) refl
+        (half-quiet (half-take w k rings (started t s x) [] here (chosen-some f)) (pagesOf guestRing left k) (same-rings left rings here e))
 
-    own-answer : (left : List ℕ) (n : ℕ) (z : Status) → AnsweredNow (viewAt h) rings left k n z → After (pageOf left k) (answering k rings left z ∷ [])
+    own-answer : (left : List ℕ) (n : ℕ) (z : Status) → AnsweredNow (viewAt h) rings left k n z → After (pagesOf guestRing left k) (answering k rings left z ∷ [])
     unfolding said
     own-answer left n z f =
-        after-own (pageOf left k) (answering k rings left z) refl
+        after-own (pagesOf guestRing left k) (answering k rings left z) refl
         (half-respond
         (half-take w k rings atOnce (said k left z (book k h) ∷ []) here (chosen-some (f .choice)))
         k left _ z _ refl refl
@@ -149,13 +149,13 @@ module _ (k : ℕ) (small : k < ports) (h : List Event) {g : Guest} {page : List
         (omega (arith, answered-le w sound)))
 
     own-finish : (left : List ℕ) (t : TagId) (s : Serial) (z : Status) → Finished (viewAt h) rings left k t s z
-        → Sound (posts k (finishing k left (t .0) (s .0) z ∷ []) (book k h)) → After (pageOf left k) (finishing k left (t .0) (s .0) z ∷ [])
+        → Sound (posts k (finishing k left (t .0) (s .0) z ∷ []) (book k h)) → After (pagesOf guestRing left k) (finishing k left (t .0) (s .0) z ∷ [])
     own-finish left t s z f o =
         let a = said k left z (book k h) in
         let taken = book k h .taken in
         let long = length-answerTo (t .0) (s .0) a taken in
         let new : Sound (entry (finishing k left (t .0) (s .0) z) (book k h)) = rw (eq-eqb k k refl) at o in
-        after-own (pageOf left k) (finishing k left (t .0) (s .0) z) refl
+        after-own (pagesOf guestRing left k) (finishing k left (t .0) (s .0) z) refl
         (rw (append-nil slots)
         (half-respond w k left _ z (answerTo (t .0) (s .0) a taken) long (pairs-answerTo (t .0) (s .0) a taken)
         (responded-here left _ z (rw view-state at (f .opened)) (f .sized) (finished-left (viewAt h) rings left k t s z f))
@@ -174,20 +174,20 @@ module _ (k : ℕ) (small : k < ports) (h : List Event) {g : Guest} {page : List
       (after-own page (closing k) refl (rw (append-nil slots) (half-state w State.Closed)))
       (λ ne. after-other page (closing (p .0)) ne (quiet-refl page))
 
-  module _ (rings : List ℕ) (sized : length rings ≡ ringsLength) (here : pageOf rings k ≡ page) where
+  module _ (rings : List ℕ) (sized : length rings ≡ ringsLength) (here : pagesOf guestRing rings k ≡ page) where
     -- another port's response
-    other-quiet : (left : List ℕ) (j : ℕ) (q : Pair) (z : Status) → j < ports → k ≢ j → left ≡ respondedAt (viewAt h) rings j q z → Quiet page (pageOf left k)
+    other-quiet : (left : List ℕ) (j : ℕ) (q : Pair) (z : Status) → j < ports → k ≢ j → left ≡ respondedAt (viewAt h) rings j q z → Quiet page (pagesOf guestRing left k)
     other-quiet left j q z there ne e =
-        unmoved left rings here (ap (λ (x : List ℕ). pageOf x k) e ∙ responded-other (viewAt h) rings k small sized j q z there ne)
+        unmoved left rings here (ap (λ (x : List ℕ). pagesOf guestRing x k) e ∙ responded-other (viewAt h) rings k small sized j q z there ne)
 
     pub after-turn : (left : List ℕ) (x : Turned) → TurnFacts (viewAt h) rings left x → TurnLeft (viewAt h) rings left x
-        → After (pageOf left k) (turnDeeds rings left x)
+        → After (pagesOf guestRing left k) (turnDeeds rings left x)
     after-turn left (Turned.Refused n) f e = after-none _ (same-rings left rings here e)
     after-turn left Turned.Idle f e =
-        after-none _ (subst (λ (y : List ℕ). Quiet y (pageOf left k)) here (rw e (idle-quiet (viewAt h) rings k small sized)))
+        after-none _ (subst (λ (y : List ℕ). Quiet y (pagesOf guestRing left k)) here (rw e (idle-quiet (viewAt h) rings k small sized)))
     after-turn left (Turned.Overrun p) f e =
         by-port
-        (λ j. Chosen (viewAt h) rings j → pendingAt (viewAt h) rings j ≡ Pending.Overrun → After (pageOf left k) (breaking j ∷ []))
+        (λ j. Chosen (viewAt h) rings j → pendingAt (viewAt h) rings j ≡ Pending.Overrun → After (pagesOf guestRing left k) (breaking j ∷ []))
         (p .0)
         (λ c o. absurd (never-overruns rings here c o))
         (λ ne c o. after-other _ (breaking (p .0)) ne (same-rings left rings here (e .0)))
@@ -195,14 +195,14 @@ module _ (k : ℕ) (small : k < ports) (h : List Event) {g : Guest} {page : List
         (e .1)
     after-turn left (Turned.Started p t s plan) f e =
         by-port
-        (λ j. Chosen (viewAt h) rings j → After (pageOf left k) (starting j rings (t .0) (s .0) (expectedOf plan) ∷ []))
+        (λ j. Chosen (viewAt h) rings j → After (pagesOf guestRing left k) (starting j rings (t .0) (s .0) (expectedOf plan) ∷ []))
         (p .0)
         (λ c. own-start rings here (t .0) (s .0) (expectedOf plan) c left e)
         (λ ne c. after-other _ (starting (p .0) rings (t .0) (s .0) (expectedOf plan)) ne (same-rings left rings here e))
         (f .choice)
     after-turn left (Turned.Answered p n z y) f e =
         by-port
-        (λ j. AnsweredNow (viewAt h) rings left j n z → After (pageOf left k) (answering j rings left z ∷ []))
+        (λ j. AnsweredNow (viewAt h) rings left j n z → After (pagesOf guestRing left k) (answering j rings left z ∷ []))
         (p .0)
         (λ a. own-answer rings here left n z a)
         (λ ne a.
@@ -212,12 +212,12 @@ module _ (k : ℕ) (small : k < ports) (h : List Event) {g : Guest} {page : List
 
     pub after-complete : (left : List ℕ) (p : PortId) (t : TagId) (s : Serial) (x : Completed) → CompleteFacts (viewAt h) rings left p t s x
         → CompleteLeft rings left x → Sound (posts k (completeDeeds left (p .0) (t .0) (s .0) x) (book k h))
-        → After (pageOf left k) (completeDeeds left (p .0) (t .0) (s .0) x)
+        → After (pagesOf guestRing left k) (completeDeeds left (p .0) (t .0) (s .0) x)
     after-complete left p t s (Completed.Refused n) f e o = after-none _ (same-rings left rings here e)
     after-complete left p t s (Completed.Done q z y) f e o =
         by-port
         (λ j. Finished (viewAt h) rings left j t s z → Sound (posts k (finishing j left (t .0) (s .0) z ∷ []) (book k h))
-        → After (pageOf left k) (finishing j left (t .0) (s .0) z ∷ []))
+        → After (pagesOf guestRing left k) (finishing j left (t .0) (s .0) z ∷ []))
         (p .0)
         (λ a. own-finish rings here left t s z a)
         (λ ne a _.

@@ -11,7 +11,7 @@ use lib.ListN.{length, getD, take, length-map}
 use lib.Seq.{length-take-le}
 use borrow.Author.Tests.{ltb-true, leb-false, eqb-false, eq-eqb, lt-leb, not-true}
 use Rattle.model.specs.Backend.{viewOf, eventOn, Backend}
-use Rattle.model.specs.Buffers.{ports, ringsLength, pageOf, setPage}
+use Rattle.model.specs.Buffers.{ports, ringsLength, pagesOf, setPages}
 use Rattle.model.specs.Calls.{Open, Close, Event}
 use Rattle.model.specs.Deeds.{paramsIn}
 use Rattle.model.specs.Demand.{All, Reordered, IsBytes}
@@ -31,7 +31,7 @@ use Rattle.model.proofs.Base.{by-cond, clash}
 use Rattle.model.proofs.Conservation.{Sound}
 use Rattle.model.proofs.DueFacts.{TurnFacts, facts-due}
 use Rattle.model.proofs.Order.{count-append, isPair, reordered}
-use Rattle.model.proofs.Page.{length-setPage, pageOf-setPage, bytes-setPage}
+use Rattle.model.proofs.Page.{length-setPages, pagesOf-setPages, bytes-setPages}
 use Rattle.model.proofs.Demand3.{demanded}
 use Rattle.model.proofs.Permitted.{sound, view-ring, view-consumed}
 use Rattle.model.proofs.Refinement.{Told, told-step}
@@ -41,7 +41,7 @@ use Rattle.asking.specs.Slot.{slotFor}
 use Rattle.frontend.specs.Guest.{guestPage, guestRing, isPage, mostOutstanding, has, sameId, samePair, PutEffect, putDue, puts, ahead, nextPair, CollectEffect, collectDue, collects, waits}
 use Rattle.halves.specs.Claim.{readSlot, NotOverrun, Holds, Fit, Lends, ForGuest, HalvesTheorem}
 use Rattle.halves.specs.System.{Gathered, System, Step, putting, collecting, turning, completing, openingOther, closingAny, logPut, logCollected, logRefused, turnOn, completeOn, slotsTaken, step, run, opened, atOpening}
-use Rattle.halves.proofs.Page.{guest-reads, guest-fits, quiet-rspEvent}
+use Rattle.halves.proofs.Page.{guest-bytes, guest-reads, guest-fits, quiet-rspEvent}
 use Rattle.halves.proofs.Slot.{as-put}
 use Rattle.halves.proofs.Lists.{count-map}
 use Rattle.halves.proofs.Before.{Before, before-all}
@@ -128,16 +128,16 @@ module _ (k : ℕ) (small : k < ports) (w : System) (h : Kept k w) where
 
   module _ (others : List ℕ) (bytes : IsBytes others) (sized : length others ≡ ringsLength) where
     abbrev lent : List ℕ
-    lent = setPage others k (w .page)
+    lent = setPages guestRing others k (w .page)
 
     pub lent-bytes : IsBytes lent
-    lent-bytes = bytes-setPage others k (w .page) bytes (h .half .holds .bytes)
+    lent-bytes = bytes-setPages guestRing others k (w .page) bytes (h .half .holds .bytes)
 
     pub lent-sized : length lent ≡ ringsLength
-    lent-sized = length-setPage others k sized small (w .page) (h .half .holds .sized) ∙ sized
+    lent-sized = length-setPages guestRing guest-fits others k sized small (w .page) (guest-bytes (w .page) (h .half .holds .sized)) ∙ sized
 
-    pub lent-here : pageOf lent k ≡ w .page
-    lent-here = pageOf-setPage others k sized small (w .page) (h .half .holds .sized)
+    pub lent-here : pagesOf guestRing lent k ≡ w .page
+    lent-here = pagesOf-setPages guestRing guest-fits others k sized small (w .page) (guest-bytes (w .page) (h .half .holds .sized))
 
     turn-kept : (grants words : List ℕ) → Kept k (step k w (turning others grants words))
     unfolding step book slotsTaken
@@ -202,7 +202,7 @@ module _ (k : ℕ) (small : k < ports) (w : System) (h : Kept k w) where
 
   next-is : (others : List ℕ) → IsBytes others → length others ≡ ringsLength → isClosed (b .state) ≡ false
       → length (b .taken) < length (w .put)
-      → requestAt (viewAt (w .events)) (setPage others k (w .page)) k ≡ readSlot (getD (map slotFor (w .put)) (length (b .taken)) [])
+      → requestAt (viewAt (w .events)) (setPages guestRing others k (w .page)) k ≡ readSlot (getD (map slotFor (w .put)) (length (b .taken)) [])
   unfolding requestAt
   next-is others bytes sized o l =
       rw (view-ring k (w .events) o, h .half .ring, view-consumed k (w .events) o, lent-here others bytes sized, slotOf-modulus guestRing guest-fits (w .page) (length (b .taken)))

@@ -12,20 +12,19 @@ use lib.ListN.{length}
 use borrow.Author.Tests.{eqb-true, eqb-false, eq-eqb, ne-eqb, not-false}
 use Rattle.model.specs.Backend.{eventOn}
 use Rattle.model.specs.Base.{modulus}
-use Rattle.model.specs.Buffers.{ports, ringsLength, pageOf, setPage}
+use Rattle.model.specs.Buffers.{ports, ringsLength, pagesOf, setPages}
 use Rattle.model.specs.Calls.{Open, Close}
 use Rattle.model.specs.Deeds.{Deed, closing, answering, finishing, portOf, openDeeds, closeDeeds, turnDeeds, completeDeeds}
 use Rattle.model.specs.Demand.{All, IsBytes}
 use Rattle.model.specs.History.{Book, said, entry, posts, book, unfinished, viewAt}
 use Rattle.model.specs.Port.{View, isClosed, isOpen, isWork, after}
-use Rattle.model.specs.Ring.{Request, reqEvent, rspEvent}
-use Rattle.model.specs.Turn.{pendingAt, hasWork, lookedAt, armed, respondedAt, notifies}
+use Rattle.model.specs.Ring.{Request, Ring, reqEvent, rspEvent}
+use Rattle.model.specs.Turn.{pagesAt, pendingAt, hasWork, lookedAt, armed, respondedAt, notifies}
 use Rattle.model.specs.declared.Completed.{Completed}
 use Rattle.model.specs.declared.Pair.{Pair}
 use Rattle.model.specs.declared.PortId.{PortId}
 use Rattle.model.specs.declared.Reply.{Reply}
 use Rattle.model.specs.declared.Serial.{Serial}
-use Rattle.model.specs.declared.State.{State}
 use Rattle.model.specs.declared.Status.{Status}
 use Rattle.model.specs.declared.TagId.{TagId}
 use Rattle.model.specs.declared.Turned.{Turned}
@@ -33,8 +32,7 @@ use Rattle.model.proofs.Base.{by-cond, clash, or-left, or-right}
 use Rattle.model.proofs.DueFacts.{Chosen, chosen-lt, Finished, TurnFacts, CompleteFacts, facts-due}
 use Rattle.model.proofs.Fairness.{work-is}
 use Rattle.model.proofs.Ledger.{length-answerTo}
-use Rattle.model.proofs.Page.{length-pageOf}
-use Rattle.model.proofs.Permitted.{view-consumed, view-produced, view-state, chosen-open}
+use Rattle.model.proofs.Permitted.{open-not-closed, view-ring, view-consumed, view-produced, view-state, chosen-open}
 use Rattle.model.proofs.Refinement.{told-step}
 use Rattle.asking.specs.Request.{isBad}
 use Rattle.asking.specs.Slot.{slotFor}
@@ -60,11 +58,6 @@ record Armed (page : List ℕ) (P Q : ℕ) (b : Book) (z : Waits) : Type 0 where
 
 abbrev ArmedIn : ℕ → System → Waits → Type 0
 ArmedIn k w z = Armed (w .page) (length (w .put)) (length (w .collected)) (book k (w .events)) z
-
-open-not-closed : (s : State) → isOpen s ≡ true → isClosed s ≡ false
-open-not-closed State.Closed e = clash e refl
-open-not-closed State.Open e = refl
-open-not-closed State.Broken e = refl
 
 -- the next index by its remainder
 after-mod : (n : ℕ) → after (n % modulus) ≡ (n + 1) % modulus
@@ -153,16 +146,16 @@ module _ (k : ℕ) (small : k < ports) (w : System) (h : Kept k w) (z : Waits) (
     v = viewAt (w .events)
 
     abbrev rings : List ℕ
-    rings = setPage others k (w .page)
+    rings = setPages guestRing others k (w .page)
 
-    here : pageOf rings k ≡ w .page
+    here : pagesOf guestRing rings k ≡ w .page
     here = lent-here k small w h others bytes long
 
     whole : length rings ≡ ringsLength
     whole = lent-sized k small w h others bytes long
 
-    same-rings : (left : List ℕ) → left ≡ rings → pageOf left k ≡ w .page
-    same-rings left e = ap (λ (x : List ℕ). pageOf x k) e ∙ here
+    same-rings : (left : List ℕ) → left ≡ rings → pagesOf guestRing left k ≡ w .page
+    same-rings left e = ap (λ (x : List ℕ). pagesOf guestRing x k) e ∙ here
 
     -- nothing is left to take of a port that is open and has no work
     none-waits : isOpen (b .state) ≡ true → hasWork v rings k ≡ false → length (b .taken) ≡ length (w .put)
@@ -177,19 +170,19 @@ module _ (k : ℕ) (small : k < ports) (w : System) (h : Kept k w) (z : Waits) (
         omega (arith, eqb-true d 0 (not-false (eqb d 0) n), h .half .behind)
 
     idle-armed : ((i : ℕ) → i < ports → hasWork v rings (lookedAt v i) ≡ false)
-        → Armed (pageOf (armed v rings ports) k) (length (w .put)) (length (w .collected)) b
+        → Armed (pagesOf guestRing (armed v rings ports) k) (length (w .put)) (length (w .collected)) b
         (record { guest = z .guest; guestTold = z .guestTold; backend = true; backendTold = false })
     idle-armed f =
         let is = idle-page v rings k small whole in
-        let size = length-pageOf rings k whole small in
+        let size : length (pagesOf guestRing rings k) ≡ guestPage = ap (λ (x : List ℕ). length x) here ∙ h .half .holds .sized in
         record {
           guest = λ x y. (
-            ap rspEvent is ∙ rsp-armed (pageOf rings k) size (v .consumed k) (v .state k) ∙ ap rspEvent here ∙ a .guest x y .0,
+            ap rspEvent is ∙ rsp-armed (pagesOf guestRing rings k) size (v .consumed k) (v .state k) ∙ ap rspEvent here ∙ a .guest x y .0,
             a .guest x y .1,
           );
           backend = λ x y o. (
             ap reqEvent is
-                ∙ req-armed (pageOf rings k) size (v .consumed k) (v .state k) (rw view-state o)
+                ∙ req-armed (pagesOf guestRing rings k) size (v .consumed k) (v .state k) (rw view-state o)
                 ∙ ap after (view-consumed k (w .events) (open-not-closed (b .state) o))
                 ∙ after-mod (length (b .taken)),
             none-waits o (idle-all v rings k small f),
@@ -203,12 +196,13 @@ module _ (k : ℕ) (small : k < ports) (w : System) (h : Kept k w) (z : Waits) (
         let c = a .guest x y in
         let produced : after (v .produced k) ≡ (length (w .collected) + 1) % modulus =
         ap after (view-produced k (w .events) o) ∙ after-mod (length (b .answered)) ∙ ap (λ (n : ℕ). (n + 1) % modulus) (sym (c .1)) in
-        eqb-false _ _ e (ap rspEvent here ∙ c .0 ∙ sym produced)
+        let same : pagesAt v rings k ≡ w .page = ap (λ (g : Ring). pagesOf g rings k) (view-ring k (w .events) o ∙ h .half .ring) ∙ here in
+        eqb-false _ _ e (ap rspEvent same ∙ c .0 ∙ sym produced)
 
     -- so after a deed with a response it was told, or the deed was another port's
     guest-armed : (left : List ℕ) (d : Deed) (y : Bool) → y ≡ notifies v rings (portOf d) → (k ≡ portOf d → isClosed (b .state) ≡ false)
-        → (k ≢ portOf d → pageOf left k ≡ w .page) → z .guest ≡ true → z .guestTold || eqb k (portOf d) && y ≡ false
-        → (rspEvent (pageOf left k) ≡ (length (w .collected) + 1) % modulus) × (length (w .collected) ≡ length (posts k (d ∷ []) b .answered))
+        → (k ≢ portOf d → pagesOf guestRing left k ≡ w .page) → z .guest ≡ true → z .guestTold || eqb k (portOf d) && y ≡ false
+        → (rspEvent (pagesOf guestRing left k) ≡ (length (w .collected) + 1) % modulus) × (length (w .collected) ≡ length (posts k (d ∷ []) b .answered))
     guest-armed left d y told own other x t =
         let j = portOf d in
         let untold : z .guestTold ≡ false = or-left (z .guestTold) (eqb k j && y) t in
@@ -219,18 +213,18 @@ module _ (k : ℕ) (small : k < ports) (w : System) (h : Kept k w) (z : Waits) (
         ]
 
     -- another port's response
-    other-page : (left : List ℕ) (j : ℕ) (q : Pair) (s : Status) → j < ports → k ≢ j → left ≡ respondedAt v rings j q s → pageOf left k ≡ w .page
-    other-page left j q s there ne e = ap (λ (x : List ℕ). pageOf x k) e ∙ responded-other v rings k small whole j q s there ne ∙ here
+    other-page : (left : List ℕ) (j : ℕ) (q : Pair) (s : Status) → j < ports → k ≢ j → left ≡ respondedAt v rings j q s → pagesOf guestRing left k ≡ w .page
+    other-page left j q s there ne e = ap (λ (x : List ℕ). pagesOf guestRing x k) e ∙ responded-other v rings k small whole j q s there ne ∙ here
 
     turn-armed : (left : List ℕ) (x : Turned) → TurnFacts v rings left x → TurnLeft v rings left x → TurnTold v rings x
-        → Armed (pageOf left k) (length (w .put)) (length (w .collected)) (posts k (turnDeeds rings left x) b) (afterTurn k z x)
-    turn-armed left (Turned.Refused n) f e t = armed-same (pageOf left k) (same-rings left e)
+        → Armed (pagesOf guestRing left k) (length (w .put)) (length (w .collected)) (posts k (turnDeeds rings left x) b) (afterTurn k z x)
+    turn-armed left (Turned.Refused n) f e t = armed-same (pagesOf guestRing left k) (same-rings left e)
     turn-armed left Turned.Idle f e t = rw e (idle-armed f)
     turn-armed left (Turned.Overrun p) f e t =
-        armed-guest (pageOf left k) (same-rings left (e .0)) _
+        armed-guest (pagesOf guestRing left k) (same-rings left (e .0)) _
         (by-cond (λ (c : Book). length (c .answered) ≡ length (b .answered)) (eqb k (p .0)) _ _ (λ _. refl) (λ _. refl))
     turn-armed left (Turned.Started p t s plan) f e y =
-        armed-guest (pageOf left k) (same-rings left e) _
+        armed-guest (pagesOf guestRing left k) (same-rings left e) _
         (by-cond (λ (c : Book). length (c .answered) ≡ length (b .answered)) (eqb k (p .0)) _ _ (λ _. refl) (λ _. refl))
     turn-armed left (Turned.Answered p n s y) f e t = record {
       guest =
@@ -244,7 +238,7 @@ module _ (k : ℕ) (small : k < ports) (w : System) (h : Kept k w) (z : Waits) (
       abbrev deed : Deed
       deed = finishing (p .0) left (t .0) (s .0) y
 
-      left-other : k ≢ p .0 → pageOf left k ≡ w .page
+      left-other : k ≢ p .0 → pagesOf guestRing left k ≡ w .page
       left-other ne = other-page left (p .0) _ y (f .small) ne (finished-left v rings left (p .0) t s y f)
 
       own : k ≡ p .0 → Finished v rings left k t s y
@@ -253,7 +247,7 @@ module _ (k : ℕ) (small : k < ports) (w : System) (h : Kept k w) (z : Waits) (
       opened : k ≡ p .0 → isClosed (b .state) ≡ false
       opened e = rw view-state at (own e .opened)
 
-      req-own : k ≡ p .0 → reqEvent (pageOf left k) ≡ reqEvent (w .page)
+      req-own : k ≡ p .0 → reqEvent (pagesOf guestRing left k) ≡ reqEvent (w .page)
       req-own e =
           ap reqEvent
           (responded-here k small (w .events) (h .half) (sound-here k small w h) rings here left _ y (opened e) whole
@@ -262,10 +256,10 @@ module _ (k : ℕ) (small : k < ports) (w : System) (h : Kept k w) (z : Waits) (
 
       -- what the backend waits for is as it was
       backend-armed : z .backend ≡ true → z .backendTold ≡ false → isOpen (posts k (deed ∷ []) b .state) ≡ true
-          → (reqEvent (pageOf left k) ≡ (length (posts k (deed ∷ []) b .taken) + 1) % modulus) × (length (posts k (deed ∷ []) b .taken) ≡ length (w .put))
+          → (reqEvent (pagesOf guestRing left k) ≡ (length (posts k (deed ∷ []) b .taken) + 1) % modulus) × (length (posts k (deed ∷ []) b .taken) ≡ length (w .put))
       backend-armed x u =
           by-cond
-          (λ (c : Book). isOpen (c .state) ≡ true → (reqEvent (pageOf left k) ≡ (length (c .taken) + 1) % modulus) × (length (c .taken) ≡ length (w .put)))
+          (λ (c : Book). isOpen (c .state) ≡ true → (reqEvent (pagesOf guestRing left k) ≡ (length (c .taken) + 1) % modulus) × (length (c .taken) ≡ length (w .put)))
           (eqb k (p .0)) (entry deed b) b
           (λ e o.
           let n = length-answerTo (t .0) (s .0) (said (p .0) left y b) (b .taken) in
@@ -274,8 +268,8 @@ module _ (k : ℕ) (small : k < ports) (w : System) (h : Kept k w) (z : Waits) (
 
     complete-armed : (left : List ℕ) (p : PortId) (t : TagId) (s : Serial) (x : Completed) → CompleteFacts v rings left p t s x → CompleteLeft rings left x
         → CompleteTold v rings p x
-        → Armed (pageOf left k) (length (w .put)) (length (w .collected)) (posts k (completeDeeds left (p .0) (t .0) (s .0) x) b) (afterCompletion k z x)
-    complete-armed left p t s (Completed.Refused n) f e y = armed-same (pageOf left k) (same-rings left e)
+        → Armed (pagesOf guestRing left k) (length (w .put)) (length (w .collected)) (posts k (completeDeeds left (p .0) (t .0) (s .0) x) b) (afterCompletion k z x)
+    complete-armed left p t s (Completed.Refused n) f e y = armed-same (pagesOf guestRing left k) (same-rings left e)
     complete-armed left p t s (Completed.Done q r y) f e o = record {
       guest = rw (o .0) (guest-armed left (deed left p t s r f) y (o .1) (opened left p t s r f) (left-other left p t s r f));
       backend = backend-armed left p t s r f;

@@ -4,7 +4,7 @@ use mathlib.Core.Path.{_≡_}
 use mathlib.Core.Bool.{true, false, cond}
 use mathlib.Core.List.{List, [], _++_, map, reverse}
 use lib.ListN.{length, getD, take}
-use Rattle.model.specs.Buffers.{ports, ringsLength, setPage}
+use Rattle.model.specs.Buffers.{ports, ringsLength, setPages}
 use Rattle.model.specs.Calls.{Call, Open, Close, Turn, Complete, Effect, Event}
 use Rattle.model.specs.Checks.{isA, maxSegments, movesNothing}
 use Rattle.model.specs.Demand.{All, count, Reordered, Demand3, IsBytes, LendsBytes}
@@ -51,7 +51,7 @@ pub record Holds (k : ℕ) (w : System) : Type 0 where
   -- What the rules see as the port's next request is the next that was put (rule 16.24).
   pub next : (others : List ℕ) → IsBytes others → length others ≡ ringsLength → isClosed (book k (w .events) .state) ≡ false
       → length (slotsTaken k (w .events)) < length (w .put)
-      → requestAt (viewAt (w .events)) (setPage others k (w .page)) k ≡ readSlot (getD (map slotFor (w .put)) (length (slotsTaken k (w .events))) [])
+      → requestAt (viewAt (w .events)) (setPages guestRing others k (w .page)) k ≡ readSlot (getD (map slotFor (w .put)) (length (slotsTaken k (w .events))) [])
   -- The backend never sees an overrun (rule 16.25).
   pub noOverrun : All (λ (e : Event). NotOverrun k (e .call) (e .effect)) (w .events)
   -- What was collected is the first of what the backend answered, in order (rule 16.26).

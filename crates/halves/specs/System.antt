@@ -1,5 +1,5 @@
 -- The two halves of a ring together (rules 16.21 to 16.23): a guest, its page, and a backend of which it has port k. Only the two of them write the page, which
--- is passed from one call to the next; the other ports' pages may hold anything.
+-- is passed from one call to the next; all other bytes of the rings may be anything.
 use Prim.Native.Nat.{ℕ}
 use mathlib.Core.Bool.{cond}
 use mathlib.Core.List.{List, [], _∷_, _++_}
@@ -7,7 +7,7 @@ use lib.Dec.{eqb}
 use lib.IntN.{ℤ}
 use lib.ListN.{length}
 use Rattle.model.specs.Backend.{Backend, emptyBackend, eventOn, afterCall}
-use Rattle.model.specs.Buffers.{pageOf, setPage}
+use Rattle.model.specs.Buffers.{pagesOf, setPages}
 use Rattle.model.specs.Calls.{Call, Open, Close, Turn, Complete, Event}
 use Rattle.model.specs.Deeds.{Deed, opening, closing, breaking, starting, answering, finishing, portOf, deedsOf}
 use Rattle.model.specs.History.{Book, ringIn, post, book, history, backendAfter}
@@ -19,7 +19,7 @@ use Rattle.model.specs.declared.PortId.{PortId}
 use Rattle.model.specs.declared.Put.{Put}
 use Rattle.model.specs.declared.Serial.{Serial}
 use Rattle.model.specs.declared.TagId.{TagId}
-use Rattle.frontend.specs.Guest.{Guest, zeroPage, freshGuest, putDue, collectDue}
+use Rattle.frontend.specs.Guest.{guestRing, Guest, zeroPage, freshGuest, putDue, collectDue}
 
 -- ---- what the backend took, by its history
 
@@ -28,8 +28,8 @@ abbrev pub took : Deed → Book → List (List ℕ)
 took (opening k p) b = []
 took (closing k) b = []
 took (breaking k) b = []
-took (starting k lent t s x) b = slotOf (ringIn b) (pageOf lent k) (length (b .taken)) ∷ []
-took (answering k lent left z) b = slotOf (ringIn b) (pageOf lent k) (length (b .taken)) ∷ []
+took (starting k lent t s x) b = slotOf (ringIn b) (pagesOf (ringIn b) lent k) (length (b .taken)) ∷ []
+took (answering k lent left z) b = slotOf (ringIn b) (pagesOf (ringIn b) lent k) (length (b .taken)) ∷ []
 took (finishing k left t s z) b = []
 
 -- those that deeds took from port k, one after another
@@ -89,10 +89,10 @@ logRefused (Collected.Response q z) = []
 
 -- the calls that lend the page
 abbrev pub turnOn : ℕ → List ℕ → List ℕ → List ℕ → List ℕ → Call
-turnOn k page others grants words = Turn (setPage others k page) grants words
+turnOn k page others grants words = Turn (setPages guestRing others k page) grants words
 
 abbrev pub completeOn : ℕ → List ℕ → List ℕ → PortId → TagId → Serial → ℤ → Call
-completeOn k page others p t s x = Complete (setPage others k page) p t s x
+completeOn k page others p t s x = Complete (setPages guestRing others k page) p t s x
 
 -- a call of the backend, which leaves the guest this page
 abbrev pub called : System → Call → List ℕ → System
@@ -132,10 +132,10 @@ step k w collecting =
     }
 step k w (turning others grants words) =
     let c = turnOn k (w .page) others grants words in
-    called w c (pageOf (eventOn (w .backend) c .effect .rings) k)
+    called w c (pagesOf guestRing (eventOn (w .backend) c .effect .rings) k)
 step k w (completing others p t s x) =
     let c = completeOn k (w .page) others p t s x in
-    called w c (pageOf (eventOn (w .backend) c .effect .rings) k)
+    called w c (pagesOf guestRing (eventOn (w .backend) c .effect .rings) k)
 step k w (openingOther p sheet) = called w (Open p sheet) (w .page)
 step k w (closingAny p) = called w (Close p) (w .page)
 

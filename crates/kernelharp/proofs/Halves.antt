@@ -9,13 +9,13 @@ use lib.ListN.{length, length-replicate}
 use Rattle.wire.proofs.Part.{setPart-part}
 use Rattle.model.specs.Answers.{putNumber, collectedNumber, putLeft, collectedLeft, extentsIn}
 use Rattle.model.specs.Backend.{Backend, eventOn, afterCall}
-use Rattle.model.specs.Buffers.{ports, pageOf, setPage}
+use Rattle.model.specs.Buffers.{ports, pagesOf, setPages}
 use Rattle.model.specs.Calls.{Turn, Complete, Effect, Event}
 use Rattle.model.specs.Ring.{Request}
 use Rattle.model.specs.Turn.{portId, tagId, serialOf}
 use Rattle.model.specs.Demand.{All, IsBytes}
 use Rattle.model.proofs.Base.{by-cond}
-use Rattle.model.proofs.Page.{pageOf-setPage, length-setPage, bytes-setPage}
+use Rattle.model.proofs.Page.{pagesOf-setPages, length-setPages, bytes-setPages}
 use Rattle.memory.specs.Backend.{backendOf, Exact}
 use Rattle.memory.specs.Words.{zeros}
 use Rattle.memory.proofs.Changes.{becomes-exact}
@@ -23,11 +23,12 @@ use Rattle.memory.proofs.Zeros.{backend-zeros, zeros-exact}
 use Rattle.backend.proofs.Every.{outcome}
 use Rattle.backend.proofs.Runs.{zeros-told}
 use Rattle.asking.specs.Request.{requestIn, isBad}
-use Rattle.frontend.specs.Guest.{Guest, guestPage, zeroPage, isPage, mostOutstanding, has, sameId, samePair, freshGuest, PutEffect, putDue, puts, CollectEffect, ahead, nextPair, collectDue, collects, waits}
+use Rattle.frontend.specs.Guest.{guestRing, Guest, guestPage, zeroPage, isPage, mostOutstanding, has, sameId, samePair, freshGuest, PutEffect, putDue, puts, CollectEffect, ahead, nextPair, collectDue, collects, waits}
 use Rattle.frontend.specs.Words.{guestWords, pairsIn, guestOf, guestZeros}
 use Rattle.frontend.specs.Promise.{putWordsLeft, collectWordsLeft}
 use Rattle.frontend.proofs.Promises.{put-guest, collect-guest, length-put, length-collect}
 use Rattle.halves.specs.System.{System, putting, collecting, turning, completing, openingOther, closingAny, logPut, logCollected, logRefused, called, step, opened}
+use Rattle.halves.proofs.Page.{guest-fits, guest-bytes}
 use Rattle.halves.proofs.Slot.{words-fit}
 use Rattle.halves.specs.Claim.{NotOpening}
 use Rattle.halves.proofs.Before.{Before, before-none, before-step}
@@ -84,8 +85,8 @@ module _ (m : List ℕ) (c : Made) (o : Outcome c) (r : Promise m c o) where
   }
 
 -- the page that is lent is where it was
-lent-same : (k : ℕ) (rings page : List ℕ) → pageOf rings k ≡ page → setPage rings k page ≡ rings
-unfolding setPage pageOf
+lent-same : (k : ℕ) (rings page : List ℕ) → pagesOf guestRing rings k ≡ page → setPages guestRing rings k page ≡ rings
+unfolding setPages pagesOf
 lent-same k rings page e = rw (← e) (setPart-part _ rings _)
 
 -- ---- every step
@@ -144,23 +145,23 @@ module _ (k : ℕ) (small : k < ports) (m w page : List ℕ) (l : Log) (h : Kept
   backend-kept (khTurn rings grants answer) o r y =
       let words = extentsIn answer in
       let S : List ℕ → System =
-      λ x. called (shown m w page l) (Turn x grants words) (pageOf (eventOn (backendOf m) (Turn x grants words) .effect .rings) k) in
+      λ x. called (shown m w page l) (Turn x grants words) (pagesOf guestRing (eventOn (backendOf m) (Turn x grants words) .effect .rings) k) in
       subst
       (Kept k)
       (ap S (lent-same k rings page (y .2))
-      ∙ ap (λ (x : List ℕ). called (shown m w page l) (Turn rings grants words) (pageOf x k)) (sym (r .ringsDue))
-      ∙ called-shown m (khTurn rings grants answer) o r w page (pageOf (o .rings) k) l)
+      ∙ ap (λ (x : List ℕ). called (shown m w page l) (Turn rings grants words) (pagesOf guestRing x k)) (sym (r .ringsDue))
+      ∙ called-shown m (khTurn rings grants answer) o r w page (pagesOf guestRing (o .rings) k) l)
       (kept-step k small (shown m w page l) h (turning rings grants words) (y .0, y .1))
   backend-kept (khComplete rings p t s x answer) o r y =
       let S : List ℕ → System =
       λ z.
       let c = Complete z (portId p) (tagId t) (serialOf s) x in
-      called (shown m w page l) c (pageOf (eventOn (backendOf m) c .effect .rings) k) in
+      called (shown m w page l) c (pagesOf guestRing (eventOn (backendOf m) c .effect .rings) k) in
       subst
       (Kept k)
       (ap S (lent-same k rings page (y .2))
-      ∙ ap (λ (z : List ℕ). called (shown m w page l) (Complete rings (portId p) (tagId t) (serialOf s) x) (pageOf z k)) (sym (r .ringsDue))
-      ∙ called-shown m (khComplete rings p t s x answer) o r w page (pageOf (o .rings) k) l)
+      ∙ ap (λ (z : List ℕ). called (shown m w page l) (Complete rings (portId p) (tagId t) (serialOf s) x) (pagesOf guestRing z k)) (sym (r .ringsDue))
+      ∙ called-shown m (khComplete rings p t s x answer) o r w page (pagesOf guestRing (o .rings) k) l)
       (kept-step k small (shown m w page l) h (completing rings (portId p) (tagId t) (serialOf s) x) (y .0, y .1))
 
 run-kept : (k : ℕ) → k < ports → (m w page : List ℕ) (l : Log) → Kept k (shown m w page l) → (run : List HalfStep) → HalvesRun k m w page run
@@ -229,9 +230,9 @@ page-lent : (k : ℕ) → k < ports → (page : List ℕ) → IsBytes page → l
 page-lent k small page b z (khOpen p sheet) y = y
 page-lent k small page b z (khClose p) y = tt
 page-lent k small page b z (khTurn rings grants answer) y =
-    (bytes-setPage rings k page (y .0) b, length-setPage rings k (y .1) small page z ∙ y .1, pageOf-setPage rings k (y .1) small page z)
+    (bytes-setPages guestRing rings k page (y .0) b, length-setPages guestRing guest-fits rings k (y .1) small page (guest-bytes page z) ∙ y .1, pagesOf-setPages guestRing guest-fits rings k (y .1) small page (guest-bytes page z))
 page-lent k small page b z (khComplete rings p t s x answer) y =
-    (bytes-setPage rings k page (y .0) b, length-setPage rings k (y .1) small page z ∙ y .1, pageOf-setPage rings k (y .1) small page z)
+    (bytes-setPages guestRing rings k page (y .0) b, length-setPages guestRing guest-fits rings k (y .1) small page (guest-bytes page z) ∙ y .1, pagesOf-setPages guestRing guest-fits rings k (y .1) small page (guest-bytes page z))
 
 lent-bytes : (k : ℕ) (page : List ℕ) (c : Made) → LendsPage k page c → BytesLent c
 lent-bytes k page (khOpen p sheet) y = tt

@@ -7,14 +7,14 @@ use mathlib.Core.List.{List, [], _∷_, _++_}
 use Prim.Native.Nat.{ℕ, _^_, _<_}
 use lib.Dec.{eqb}
 use lib.ListN.{length, getD}
-use Rattle.model.specs.Buffers.{ringsLength, pageOf, setPage}
+use Rattle.model.specs.Buffers.{ringsLength, pagesOf, setPages}
 use Rattle.model.specs.Calls.{Event}
 use Rattle.model.specs.Demand.{All, IsBytes}
 use Rattle.model.specs.Ring.{Request}
 use Rattle.memory.specs.Backend.{backendOf}
 use Rattle.memory.specs.Words.{zeros}
 use Rattle.asking.specs.Request.{requestIn}
-use Rattle.frontend.specs.Guest.{zeroPage}
+use Rattle.frontend.specs.Guest.{guestRing, zeroPage}
 use Rattle.frontend.specs.Words.{guestOf, guestZeros}
 use Rattle.halves.specs.Claim.{Holds, NotOpening, ForGuest}
 use Rattle.halves.specs.System.{Gathered, System}
@@ -33,15 +33,15 @@ pub data HalfStep : Type 0 where
 abbrev pub pageLeft : ℕ → List ℕ → (c : Made) → Outcome c → List ℕ
 pageLeft k page (khOpen p sheet) o = page
 pageLeft k page (khClose p) o = page
-pageLeft k page (khTurn rings grants answer) o = pageOf (o .rings) k
-pageLeft k page (khComplete rings p t s x answer) o = pageOf (o .rings) k
+pageLeft k page (khTurn rings grants answer) o = pagesOf guestRing (o .rings) k
+pageLeft k page (khComplete rings p t s x answer) o = pagesOf guestRing (o .rings) k
 
 -- What a call on the backend is lent: rings of the right length, which hold bytes, and the guest's page among them. Port k is not opened again (rules 16.21 and 16.22).
 abbrev pub LendsPage : ℕ → List ℕ → Made → Type 0
 LendsPage k page (khOpen p sheet) = k ≡ p → ⊥
 LendsPage k page (khClose p) = Unit
-LendsPage k page (khTurn rings grants answer) = IsBytes rings × (length rings ≡ ringsLength) × (pageOf rings k ≡ page)
-LendsPage k page (khComplete rings p t s x answer) = IsBytes rings × (length rings ≡ ringsLength) × (pageOf rings k ≡ page)
+LendsPage k page (khTurn rings grants answer) = IsBytes rings × (length rings ≡ ringsLength) × (pagesOf guestRing rings k ≡ page)
+LendsPage k page (khComplete rings p t s x answer) = IsBytes rings × (length rings ≡ ringsLength) × (pagesOf guestRing rings k ≡ page)
 
 -- A request's words are words. An array of u64 holds such; a list of numbers, which stands for one here, might not.
 abbrev pub AreWords : List ℕ → Type 0
@@ -128,8 +128,8 @@ pub data Wish : Type 0 where
 abbrev pub withPage : ℕ → List ℕ → Made → Made
 withPage k page (khOpen p sheet) = khOpen p sheet
 withPage k page (khClose p) = khClose p
-withPage k page (khTurn rings grants answer) = khTurn (setPage rings k page) grants answer
-withPage k page (khComplete rings p t s x answer) = khComplete (setPage rings k page) p t s x answer
+withPage k page (khTurn rings grants answer) = khTurn (setPages guestRing rings k page) grants answer
+withPage k page (khComplete rings p t s x answer) = khComplete (setPages guestRing rings k page) p t s x answer
 
 -- any arguments, in rings of bytes that have the right length; port k is not opened again
 abbrev pub MayWish : ℕ → Wish → Type 0

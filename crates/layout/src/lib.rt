@@ -1,10 +1,16 @@
-// The numbers of a guest's ring page: its header, its slots, the fields of a request and of a response (section 2 of docs/RULES.md), by the guest's layout.
+// The numbers of a guest's ring: its header, its slots, the fields of a request and of a response (section 2 of docs/RULES.md), by the guest's layout and the
+// ring's pages.
 use model::Abi;
+use model::Pages;
+use model::buffer::PAGE_BYTES;
 ghost use mathlib.Core.Path.{_≡_};
 ghost use Prim.Native.Nat.{_+_, _*_, _<_, _≤_};
+ghost use lib.Dec.{ltb};
+ghost use Rattle.model.specs.Buffers.{ringShare};
 ghost use Rattle.model.specs.Checks.{maxSegments};
 ghost use Rattle.model.specs.Port.{busyBits};
-ghost use Rattle.model.specs.Ring.{layoutOf, ringFor, restSize, segmentSize, slotBytes};
+ghost use Rattle.model.specs.Ring.{layoutOf, pageCount, ringFor, restSize, segmentSize, slotBytes};
+ghost use Rattle.model.specs.declared.Abi.{Abi};
 ghost use Rattle.layout.specs.Copy.{copyLayout};
 
 // The bytes of the header, and where its four fields stand, four bytes each (rule 2.2).
@@ -21,8 +27,8 @@ pub const RSP_EVENT: usize = 12;
 // The bytes of the largest slot: no request is longer than that (rule 2.3).
 pub const SLOT_BYTES: usize = 112;
 
-// The slots of a ring of one page (rule 2.3).
-pub const SLOTS: u32 = 32;
+// The slots that a ring has for each of its pages (rule 2.3).
+pub const PAGE_SLOTS: u32 = 32;
 
 // Where a request of any layout keeps its operation, and its segment count or flag (rules 2.5 and 2.8).
 pub const REQUEST_OPERATION: usize = 0;
@@ -56,11 +62,38 @@ pub const RESPONSE_STATUS: usize = 10;
 
 pub const RESPONSE_PADDING: usize = 12;
 
-// How many slots a ring has, which is also how many requests may be in flight.
-pub fn ring_size(abi: Abi) -> u32
-    ensures { λ r. ⌜ (r ≡ ringFor abi .size) × (0 < r) × (r ≤ busyBits) ⌝ }
+// How many pages a ring has.
+fn page_count(pages: Pages) -> u32
+    ensures { λ r. ⌜ (r ≡ pageCount pages) × (0 < r) × (r ≤ 2) ⌝ }
 {
-    SLOTS
+    match pages {
+        Pages::One => 1,
+        Pages::Two => 2,
+    }
+}
+
+// How many slots a ring has, which is also how many requests may be in flight: as many in each layout.
+pub fn ring_size(pages: Pages) -> u32
+    ensures { λ r. ⌜ ((abi : Abi) → r ≡ ringFor abi pages .size) × (0 < r) × (r ≤ busyBits) ⌝ }
+{
+    PAGE_SLOTS * page_count(pages)
+}
+
+// Whether a ring has tag t. Every ring has those of one page, so how many pages there are is looked at only for others.
+pub fn has_tag(pages: Pages, t: u32) -> bool
+    ensures { λ r. ⌜ ((abi : Abi) → r ≡ ltb t (ringFor abi pages .size)) ⌝ }
+{
+    if t < PAGE_SLOTS {
+        return true;
+    }
+    t < ring_size(pages)
+}
+
+// The bytes of a ring: those that it has of its port's share.
+pub fn ring_bytes(pages: Pages) -> usize
+    ensures { λ r. ⌜ ((abi : Abi) → r ≡ ringFor abi pages .bytes) × (r ≤ ringShare) ⌝ }
+{
+    PAGE_BYTES * page_count(pages) as usize
 }
 
 // The bytes of a slot.

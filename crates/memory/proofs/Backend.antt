@@ -11,8 +11,9 @@ use borrow.Author.Tests.{lt-ltb, le-ltb, eq-eqb, ne-eqb}
 use Rattle.model.specs.Buffers.{ports}
 use Rattle.model.specs.Backend.{Backend, withPort, withTag, withPointer}
 use Rattle.model.specs.Port.{closedPort}
-use Rattle.model.specs.Ring.{ringFor, ringOf}
+use Rattle.model.specs.Ring.{ringOf}
 use Rattle.model.specs.declared.Params.{Params}
+use Rattle.model.proofs.Ring.{fits}
 use Rattle.model.specs.declared.Port.{Port}
 use Rattle.model.specs.declared.State.{State}
 use Rattle.model.specs.declared.Tag.{Tag}
@@ -165,5 +166,4 @@ backend-ranged m k = either (ltb k ports)
 
 -- every ring has as many tags in memory as it has slots, so each of its tags has a record
 pub size-tags : (p : Params) → ringOf p .size ≤ tags
-unfolding ringFor
-size-tags p = omega arith
+size-tags p = fits p .marked

@@ -3,6 +3,7 @@ use mathlib.Core.Path.{_≡_, refl, sym, ap, _∙_, subst}
 use mathlib.Core.List.{List}
 use Prim.Native.Nat.{ℕ, _+_, _*_, _^_, _<_}
 use native.Mathlib.Decide.{ℕ-discrete}
+use native.Mathlib.Nat.{add-assoc}
 use native.Mathlib.Omega.{arith}
 use lib.ListN.{length, getD, set}
 use lib.Seq.{getD-set-same, getD-set-other}
@@ -15,7 +16,7 @@ use Rattle.memory.specs.Words.{word, setWord, stateWord, stateAt, consum
 use Rattle.memory.specs.Words.{tagWordsOf, tagAt, setTag, pointerAt, setPointer}
 use Rattle.memory.proofs.Lens.{Apart, Ranged, RangedTag, length-setPort, setPort-apart, setPort-word, port-same, length-setTag, setTag-apart, setTag-word, tag-same}
 use Rattle.memory.proofs.Lens.{length-setWord, setWord-apart, word-same, word-other, port-state, port-consumed, port-produced, port-busy}
-use Rattle.memory.proofs.Lens.{length-setPointer, setPointer-apart, pointer-same, port-other, port-tag, port-pointer, tag-port, tag-other, tag-pointer, pointer-port, pointer-tag}
+use Rattle.memory.proofs.Lens.{length-setPointer, setPointer-apart, pointer-same, port-other, port-tag, port-pointer, tag-port, tag-other, tag-pointer, pointer-port, pointer-tag, own-apart, tags-apart}
 
 -- Memory in which each word is the one that a write of what it is read as would leave: no stray bits. It holds of all zeros, and every write keeps it.
 pub record Kept (m : List ℕ) : Type 0 where
@@ -46,7 +47,7 @@ module _ (m left : List ℕ) (o : Kept m) (n : length left ≡ length m) (k : �
         long = n ∙ o .long;
         port = own;
         tag = λ j t q r l u.
-            a (stride * j + (tagPlace t + q)) (λ v s z. omega arith)
+            a (stride * j + (tagPlace t + q)) (λ v s z. own-apart k j v t q s l u (sym z))
             ∙ o .tag j t q r l u
             ∙ ap (λ (x : Tag). getD (tagWordsOf x) q 0) (sym (port-tag m left k a j t l));
         pointer = a pointerWord (λ v s z. omega arith) ∙ o .pointer ∙ sym (port-pointer m left k a h);
@@ -60,7 +61,7 @@ module _ (m left : List ℕ) (o : Kept m) (n : length left ≡ length m) (k : �
   kept-tagged t l x a e w =
       let same : (j u q : ℕ) → j < ports → u < tags → q < tagWords → (j ≡ k → u ≡ t → ⊥)
       → word left j (tagPlace u + q) ≡ getD (tagWordsOf (tagAt left j u)) q 0 = λ j u q r v b d.
-      a (stride * j + (tagPlace u + q)) (λ y s z. d (omega arith) (omega arith))
+      a (stride * j + (tagPlace u + q)) (λ y s z. let p = tags-apart j k u t q y v l b s (z ∙ add-assoc (stride * k) (tagPlace t) y) in d (p .0) (p .1))
       ∙ o .tag j u q r v b
       ∙ ap (λ (x : Tag). getD (tagWordsOf x) q 0) (sym (tag-other m left k t l a j u v d)) in
       let here : (j u : ℕ) → j ≡ k → u ≡ t → (q : ℕ) → q < tagWords → word left j (tagPlace u + q) ≡ getD (tagWordsOf (tagAt left j u)) q 0 = λ j u y z q b.
@@ -70,7 +71,7 @@ module _ (m left : List ℕ) (o : Kept m) (n : length left ≡ length m) (k : �
       record {
         long = n ∙ o .long;
         port = λ j q r v.
-            a (stride * j + q) (λ y s z. omega arith)
+            a (stride * j + q) (λ y s z. own-apart j k q t y v l s (z ∙ add-assoc (stride * k) (tagPlace t) y))
             ∙ o .port j q r v
             ∙ ap (λ (x : Port). getD (wordsOf x) q 0) (sym (tag-port m left k t l a j));
         tag = λ j u q r v b.

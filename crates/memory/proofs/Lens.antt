@@ -1,10 +1,10 @@
 -- The lens laws of backend memory: what was put is read back, and every other port, tag and word is as before. Assumes nothing.
-use mathlib.Core.Path.{_≡_, refl, ap, _∙_}
+use mathlib.Core.Path.{_≡_, refl, sym, ap, _∙_}
 use mathlib.Core.Bool.{Bool, true, false, cond}
 use mathlib.Core.List.{List, [], _∷_}
 use Prim.Native.Nat.{ℕ, zero, suc, _+_, _*_, _%_, _^_, _<_, _≤_}
 use native.Mathlib.Decide.{ℕ-discrete}
-use native.Mathlib.Nat.{add-zero, mod-eq-of-lt}
+use native.Mathlib.Nat.{add-zero, add-assoc, mod-eq-of-lt}
 use native.Mathlib.Numerals.{add-one}
 use native.Mathlib.Omega.{arith}
 use lib.Dec.{eqb}
@@ -13,12 +13,13 @@ use lib.Seq.{sets, length-sets, drop-cons, drop-length, getD-set-same, getD-set-
 use borrow.Author.Tests.{eq-eqb, ne-eqb}
 use Rattle.model.specs.Buffers.{ports}
 use Rattle.model.specs.declared.Abi.{Abi}
+use Rattle.model.specs.declared.Pages.{Pages}
 use Rattle.model.specs.declared.Port.{Port}
 use Rattle.model.specs.declared.SectorSize.{SectorSize}
 use Rattle.model.specs.declared.State.{State}
 use Rattle.model.specs.declared.Tag.{Tag}
 use Rattle.memory.specs.Layout.{portWords, tagWords, tags, stride, pointerWord, memoryWords, tagPlace}
-use Rattle.memory.specs.Words.{word, setWord, stateOf, stateWord, flagOf, flagWord, sectorOf, sectorWord, sectorCase, abiOf, abiWord}
+use Rattle.memory.specs.Words.{word, setWord, stateOf, stateWord, flagOf, flagWord, sectorOf, sectorWord, sectorCase, abiOf, abiWord, pagesCase, pagesFrom, pagesWord}
 use Rattle.memory.specs.Words.{stateAt, consumedAt, producedAt, busyAt, paramsFrom, portFrom, wordsOf, portAt, setPort}
 use Rattle.memory.specs.Backend.{withState, withConsumed, withProduced, withBusy}
 use Rattle.memory.specs.Words.{tagFrom, tagWordsOf, tagAt, setTag, pointerAt, setPointer}
@@ -40,6 +41,10 @@ pub abi-other : (n : ℕ) → (n ≡ 0 → ⊥) → Abi.Bits32 ≡ abiOf n
 abi-other zero h = absurd (h refl)
 abi-other (suc n) h = refl
 
+pub pages-other : (n : ℕ) → (n ≡ 0 → ⊥) → Pages.Two ≡ pagesCase n
+pages-other zero h = absurd (h refl)
+pages-other (suc n) h = refl
+
 pub state-back : (s : State) → stateOf (stateWord s) ≡ s
 state-back State.Closed = refl
 state-back State.Open = refl
@@ -58,6 +63,10 @@ sector-back SectorSize.Bytes4096 = refl
 abi-back : (a : Abi) → abiOf (abiWord a) ≡ a
 abi-back Abi.Bits64 = refl
 abi-back Abi.Bits32 = refl
+
+pages-back : (n : Pages) → pagesFrom (pagesWord n) ≡ n
+pages-back Pages.One = refl
+pages-back Pages.Two = refl
 
 -- ---- runs of words
 
@@ -109,6 +118,7 @@ port-agree v w h =
       h 9 (omega arith),
       h 10 (omega arith),
       h 11 (omega arith),
+      h 12 (omega arith),
     )
 
 -- the fields of a port that are narrower than their words, within their types
@@ -133,6 +143,7 @@ port-back p r =
         sector = sector-back (p .params .sector) i;
         sectors = p .params .sectors;
         abi = abi-back (p .params .abi) i;
+        pages = pages-back (p .params .pages) i;
       };
       consumed = c i;
       produced = d i;
@@ -265,6 +276,20 @@ module _ (m : List ℕ) (v : ℕ) where
 
 -- ---- every other port, tag and the pointer, after any change that is apart from them
 
+-- where a word stands settles its port, and which of the port's words it is
+pub same-place : (j k a b : ℕ) → a < stride → b < stride → stride * j + a ≡ stride * k + b → (j ≡ k) × (a ≡ b)
+same-place j k a b l r e = let p : j ≡ k = omega arith in (p, omega (arith, p))
+
+-- a port's own words are not its tags', and those of two tags are not one
+pub own-apart : (j k q t u : ℕ) → q < portWords → t < tags → u < tagWords → stride * j + q ≡ stride * k + (tagPlace t + u) → ⊥
+own-apart j k q t u l r o e = omega (arith, same-place j k q (tagPlace t + u) (omega arith) (omega arith) e .1)
+
+pub tags-apart : (j k t u q r : ℕ) → t < tags → u < tags → q < tagWords → r < tagWords → stride * j + (tagPlace t + q) ≡ stride * k + (tagPlace u + r)
+    → (j ≡ k) × (t ≡ u)
+tags-apart j k t u q r l o v w e =
+    let p = same-place j k (tagPlace t + q) (tagPlace u + r) (omega arith) (omega arith) e in
+    (p .0, omega (arith, p .1))
+
 module _ (m left : List ℕ) (k : ℕ) where
   -- a change within port k's own words
   module _ (a : Apart (stride * k) portWords m left) where
@@ -276,7 +301,7 @@ module _ (m left : List ℕ) (k : ℕ) where
     unfolding tagAt word
     port-tag j t l =
         tag-agree (λ q. word left j (tagPlace t + q)) (λ q. word m j (tagPlace t + q)) (λ q o.
-        a (stride * j + (tagPlace t + q)) (λ u r e. omega arith))
+        a (stride * j + (tagPlace t + q)) (λ u r e. own-apart k j u t q r l o (sym e)))
 
     pub port-pointer : k < ports → pointerAt left ≡ pointerAt m
     unfolding pointerAt
@@ -286,13 +311,13 @@ module _ (m left : List ℕ) (k : ℕ) where
   module _ (t : ℕ) (h : t < tags) (a : Apart (stride * k + tagPlace t) tagWords m left) where
     pub tag-port : (j : ℕ) → portAt left j ≡ portAt m j
     unfolding portAt word
-    tag-port j = port-agree (word left j) (word m j) (λ q l. a (stride * j + q) (λ u o e. omega arith))
+    tag-port j = port-agree (word left j) (word m j) (λ q l. a (stride * j + q) (λ u o e. own-apart j k q t u l h o (e ∙ add-assoc (stride * k) (tagPlace t) u)))
 
     pub tag-other : (j u : ℕ) → u < tags → (j ≡ k → u ≡ t → ⊥) → tagAt left j u ≡ tagAt m j u
     unfolding tagAt word
     tag-other j u l d =
         tag-agree (λ q. word left j (tagPlace u + q)) (λ q. word m j (tagPlace u + q)) (λ q o.
-        a (stride * j + (tagPlace u + q)) (λ r s e. d (omega arith) (omega arith)))
+        a (stride * j + (tagPlace u + q)) (λ r s e. let p = tags-apart j k u t q r l h o s (e ∙ add-assoc (stride * k) (tagPlace t) r) in d (p .0) (p .1)))
 
     pub tag-pointer : k < ports → pointerAt left ≡ pointerAt m
     unfolding pointerAt

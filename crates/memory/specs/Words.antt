@@ -1,5 +1,5 @@
 -- The words of backend memory read as ports, tags and the pointer, whatever they hold (rule 14.3), and written.
-use Prim.Native.Nat.{ℕ, zero, suc, _+_, _*_, _%_, _^_}
+use Prim.Native.Nat.{ℕ, zero, suc, _+_, _*_, _/_, _%_, _^_}
 use mathlib.Core.Bool.{Bool, true, false, not}
 use mathlib.Core.List.{List, [], _∷_}
 use lib.Dec.{eqb}
@@ -7,6 +7,7 @@ use lib.ListN.{getD, set, replicate}
 use lib.Seq.{sets}
 use Rattle.model.specs.Buffers.{ports}
 use Rattle.model.specs.declared.Abi.{Abi}
+use Rattle.model.specs.declared.Pages.{Pages}
 use Rattle.model.specs.declared.Params.{Params}
 use Rattle.model.specs.declared.Port.{Port}
 use Rattle.model.specs.declared.SectorSize.{SectorSize}
@@ -67,6 +68,18 @@ abbrev pub abiWord : Abi → ℕ
 abiWord Abi.Bits64 = 0
 abiWord Abi.Bits32 = 1
 
+-- a ring's pages: a second one where bit 5 is set, which is worth as much as the second page has slots (rule 14.3)
+abbrev pub pagesCase : ℕ → Pages
+pagesCase zero = Pages.One
+pagesCase (suc n) = Pages.Two
+
+abbrev pub pagesFrom : ℕ → Pages
+pagesFrom x = pagesCase (x / 32 % 2)
+
+abbrev pub pagesWord : Pages → ℕ
+pagesWord Pages.One = 0
+pagesWord Pages.Two = 32
+
 -- a number of 8 or 32 bits: modulo its width (rule 14.3)
 abbrev pub narrow8 : ℕ → ℕ
 narrow8 x = x % 2 ^ 8
@@ -81,15 +94,15 @@ abbrev pub stateAt : ℕ
 stateAt = 0
 
 abbrev pub consumedAt : ℕ
-consumedAt = 9
+consumedAt = 10
 
 abbrev pub producedAt : ℕ
-producedAt = 10
+producedAt = 11
 
 abbrev pub busyAt : ℕ
-busyAt = 11
+busyAt = 12
 
--- the params in words 1 to 8 of a port
+-- the params in words 1 to 9 of a port
 unfoldable pub paramsFrom : (ℕ → ℕ) → Params
 paramsFrom w = record {
   writable = flagOf (w 1);
@@ -100,6 +113,7 @@ paramsFrom w = record {
   sector = sectorOf (w 6);
   sectors = w 7;
   abi = abiOf (w 8);
+  pages = pagesFrom (w 9);
 }
 
 -- a port, by its words
@@ -124,6 +138,7 @@ wordsOf p =
     ∷ sectorWord (p .params .sector)
     ∷ p .params .sectors
     ∷ abiWord (p .params .abi)
+    ∷ pagesWord (p .params .pages)
     ∷ p .consumed
     ∷ p .produced
     ∷ p .busy

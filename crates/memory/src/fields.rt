@@ -1,9 +1,10 @@
 // What a field is as a word, and a word as a field: reading is total.
 use model::Abi;
+use model::Pages;
 use model::SectorSize;
 use model::State;
 ghost use mathlib.Core.Path.{_≡_};
-ghost use Rattle.memory.specs.Words.{stateOf, stateWord, flagWord, sectorOf, sectorWord, abiOf, abiWord};
+ghost use Rattle.memory.specs.Words.{stateOf, stateWord, flagWord, sectorOf, sectorWord, abiOf, abiWord, pagesFrom, pagesWord};
 
 pub fn state_of(x: u64) -> State
     ensures { λ r. ⌜ r ≡ stateOf x ⌝ }
@@ -68,5 +69,24 @@ pub fn abi_word(a: Abi) -> u64
     match a {
         Abi::Bits64 => 0,
         Abi::Bits32 => 1,
+    }
+}
+
+// Bit 5, so that the compiler has the number of slots without a test: 32 and that bit.
+pub fn pages_of(x: u64) -> Pages
+    ensures { λ r. ⌜ r ≡ pagesFrom x ⌝ }
+{
+    match x / 32 % 2 {
+        0 => Pages::One,
+        _ => Pages::Two,
+    }
+}
+
+pub fn pages_word(n: Pages) -> u64
+    ensures { λ r. ⌜ r ≡ pagesWord n ⌝ }
+{
+    match n {
+        Pages::One => 0,
+        Pages::Two => 32,
     }
 }

@@ -2,12 +2,11 @@
 // Port k has the STRIDE words from STRIDE * k on: its own PORT_WORDS, then TAG_WORDS for each of its TAGS tags. The pointer is the last word.
 //
 // a port: 0 state · 1 writable · 2 barrier · 3 flush · 4 discard · 5 secure · 6 sector size (its exponent above 512) · 7 sectors · 8 abi
-//         9 consumed · 10 produced · 11 busy
+//         9 pages (0, or 32 where there is a second) · 10 consumed · 11 produced · 12 busy
 // a tag:  0 id · 1 operation · 2 serial · 3 expected
 //
 // Reading is total: no content of the words is wrong. Callers see the backend that the words say (specs/Backend.antt), and no word.
 use crate::words::known;
-use layout::SLOTS;
 use model::buffer::PORTS;
 ghost use mathlib.Core.Path.{_≡_};
 ghost use Prim.Native.Nat.{_<_};
@@ -23,6 +22,7 @@ mod words;
 pub use port::abi;
 pub use port::busy_marks;
 pub use port::consumed;
+pub use port::pages;
 pub use port::port_at;
 pub use port::produced;
 pub use port::set_busy_marks;
@@ -34,12 +34,12 @@ pub use port::state;
 pub use tag::set_tag;
 pub use tag::tag_at;
 
-pub const PORT_WORDS: usize = 12;
+pub const PORT_WORDS: usize = 13;
 
 pub const TAG_WORDS: usize = 4;
 
-// A tag to each slot of the ring.
-pub const TAGS: usize = SLOTS as usize;
+// A tag to each mark, and so to each slot of the largest ring.
+pub const TAGS: usize = 64;
 
 pub const STRIDE: usize = PORT_WORDS + TAG_WORDS * TAGS;
 

@@ -5,6 +5,8 @@ use crate::WORDS;
 use crate::fields::abi_of;
 use crate::fields::abi_word;
 use crate::fields::flag_word;
+use crate::fields::pages_of;
+use crate::fields::pages_word;
 use crate::fields::sector_of;
 use crate::fields::sector_word;
 use crate::fields::state_of;
@@ -16,6 +18,7 @@ use crate::words::put_run;
 use crate::words::put_word;
 use crate::words::word;
 use model::Abi;
+use model::Pages;
 use model::Params;
 use model::Port;
 use model::State;
@@ -45,11 +48,13 @@ const SECTORS: usize = 7;
 
 const ABI: usize = 8;
 
-const CONSUMED: usize = 9;
+const PAGES: usize = 9;
 
-const PRODUCED: usize = 10;
+const CONSUMED: usize = 10;
 
-const BUSY: usize = 11;
+const PRODUCED: usize = 11;
+
+const BUSY: usize = 12;
 
 // ---- one field
 
@@ -74,6 +79,14 @@ pub fn abi(m: &[u64; WORDS], k: usize) -> Abi
     ensures { λ r. ⌜ r ≡ backendOf (now (m .entry)) .port k .params .abi ⌝ }
 {
     abi_of(word(m, k, ABI))
+}
+
+// How many pages the port's ring has.
+pub fn pages(m: &[u64; WORDS], k: usize) -> Pages
+    requires { ⌜ k < ports ⌝ }
+    ensures { λ r. ⌜ r ≡ backendOf (now (m .entry)) .port k .params .pages ⌝ }
+{
+    pages_of(word(m, k, PAGES))
 }
 
 // req_cons, the index of the request to take next.
@@ -132,6 +145,7 @@ fn params(m: &[u64; WORDS], k: usize) -> Params
 {
     let sector = sector_of(word(m, k, SECTOR_SIZE));
     let abi = abi(m, k);
+    let pages = pages(m, k);
     Params {
         writable: flag(m, k, WRITABLE),
         barrier: flag(m, k, BARRIER),
@@ -141,6 +155,7 @@ fn params(m: &[u64; WORDS], k: usize) -> Params
         sector: sector,
         sectors: word(m, k, SECTORS),
         abi: abi,
+        pages: pages,
     }
 }
 
@@ -166,6 +181,7 @@ fn words_of(p: Port) -> [u64; PORT_WORDS]
     let params = p.params;
     let sector = params.sector;
     let abi = params.abi;
+    let pages = params.pages;
     [
         state_word(state),
         flag_word(params.writable),
@@ -176,6 +192,7 @@ fn words_of(p: Port) -> [u64; PORT_WORDS]
         sector_word(sector),
         params.sectors,
         abi_word(abi),
+        pages_word(pages),
         p.consumed as u64,
         p.produced as u64,
         p.busy,

@@ -12,13 +12,13 @@ use lib.Dec.{eqb, leb}
 use lib.ListN.{length, length-append}
 use borrow.Author.Tests.{eqb-true, eqb-false, eq-eqb, ne-eqb, not-true}
 use Rattle.model.specs.Base.{modulus}
-use Rattle.model.specs.Buffers.{ports, pageOf}
+use Rattle.model.specs.Buffers.{ports, pagesOf}
 use Rattle.model.specs.Ring.{reqProd}
 use Rattle.model.specs.Port.{distance, pendingOf, isWork}
 use Rattle.model.specs.Calls.{Event}
 use Rattle.model.specs.Turn.{pendingAt, hasWork, lookedAt}
 use Rattle.model.specs.Deeds.{Round, noTurn, unserved, served, roundOf, portAfter, moved}
-use Rattle.model.specs.History.{book, pointer, viewAt, hasToServe, Seen, seen, turnsOf}
+use Rattle.model.specs.History.{ringIn, book, pointer, viewAt, hasToServe, Seen, seen, turnsOf}
 use Rattle.model.specs.Demand.{All, Any, count, serves, InARow, AsDue}
 use Rattle.model.specs.declared.Pending.{Pending}
 use Rattle.model.specs.declared.State.{State}
@@ -129,8 +129,8 @@ serve-work k h lent = go (book k h .state) refl
     go State.Closed e = rw e
     go State.Open e =
         rw e
-        (ap not (differ (reqProd (pageOf lent k)) (length (book k h .taken) % modulus) (omega arith))
-        ∙ sym (work-is _ _ (distance (reqProd (pageOf lent k)) (length (book k h .taken) % modulus))))
+        (ap not (differ (reqProd (pagesOf (ringIn (book k h)) lent k)) (length (book k h .taken) % modulus) (omega arith))
+        ∙ sym (work-is _ _ (distance (reqProd (pagesOf (ringIn (book k h)) lent k)) (length (book k h .taken) % modulus))))
     go State.Broken e = rw e
 
 -- ---- a run of waiting

@@ -1,5 +1,5 @@
--- The laws of a port's page: what was put is there, and a response reads back as the pair and the status that it was given. Assumes nothing.
-use mathlib.Core.Path.{_≡_, ap, _∙_}
+-- The laws of a port's pages: what was put is there, and a response reads back as the pair and the status that it was given. Assumes nothing.
+use mathlib.Core.Path.{_≡_, sym, ap, _∙_}
 use mathlib.Core.List.{List}
 use mathlib.Core.Logic.{_≢_}
 use Prim.Native.Nat.{ℕ, _+_, _-_, _*_, _^_, _≤_, _<_}
@@ -8,9 +8,9 @@ use native.Mathlib.Omega.{arith}
 use lib.ListN.{length, getD}
 use Rattle.wire.specs.LittleEndian.{load, store}
 use Rattle.wire.proofs.LittleEndian.{length-store, getD-store-outside, getD-store-inside, load-store-below, load-store-above, load-store-lt, load-lt, bytes-store}
-use Rattle.wire.proofs.Part.{length-part, length-setPart, part-setPart, part-setPart-below, part-setPart-above, bytes-part, bytes-setPart}
-use Rattle.model.specs.Buffers.{ports, pageShare, ringsLength, pageOf, setPage}
-use Rattle.model.specs.Ring.{Layout, Ring, setRspProd, rspProd, slotAt, slotOf, requestOf, setResponse, statusBits, responsePair, responseStatus}
+use Rattle.wire.proofs.Part.{length-part, length-setPart, part-setPart, getD-setPart-below, getD-setPart-above, part-setPart-below, part-setPart-above, load-part, setPart-store, bytes-part, bytes-setPart}
+use Rattle.model.specs.Buffers.{ports, ringShare, ringsLength, pagesOf, setPages}
+use Rattle.model.specs.Ring.{Layout, Ring, headerSize, reqProdAt, reqEventAt, reqProd, setReqEvent, setRspProd, rspProd, slotAt, slotOf, requestOf, setResponse, statusBits, responsePair, responseStatus}
 use Rattle.model.specs.Port.{after}
 use Rattle.model.specs.Turn.{responded}
 use Rattle.model.specs.declared.Pair.{Pair}
@@ -19,33 +19,62 @@ use Rattle.model.proofs.Ring.{Fits, slotAt-room, slotAt-header}
 
 -- ---- pages of the rings
 
-module _ (rings : List ℕ) (k : ℕ) (sized : length rings ≡ ringsLength) (small : k < ports) where
-  pub length-pageOf : length (pageOf rings k) ≡ pageShare
-  unfolding pageOf
-  length-pageOf = length-part pageShare rings (pageShare * k) (omega arith)
+module _ (g : Ring) (f : Fits g) (rings : List ℕ) (k : ℕ) (sized : length rings ≡ ringsLength) (small : k < ports) where
+  fit : ringShare * k + g .bytes ≤ length rings
+  fit = omega (arith, f .within)
 
-  -- the page that was put is there
-  pub pageOf-setPage : (page : List ℕ) → length page ≡ pageShare → pageOf (setPage rings k page) k ≡ page
-  unfolding pageOf setPage
-  pageOf-setPage page l = part-setPart pageShare rings (pageShare * k) page (omega arith) l
+  pub length-pagesOf : length (pagesOf g rings k) ≡ g .bytes
+  unfolding pagesOf
+  length-pagesOf = length-part (g .bytes) rings (ringShare * k) fit
 
-  pub length-setPage : (page : List ℕ) → length page ≡ pageShare → length (setPage rings k page) ≡ length rings
-  unfolding setPage
-  length-setPage page l = length-setPart pageShare rings (pageShare * k) page (omega arith) l
+  -- the pages that were put are there
+  pub pagesOf-setPages : (pages : List ℕ) → length pages ≡ g .bytes → pagesOf g (setPages g rings k pages) k ≡ pages
+  unfolding pagesOf setPages
+  pagesOf-setPages pages l = part-setPart (g .bytes) rings (ringShare * k) pages fit l
 
-  -- and every other port's page is as before
-  pub pageOf-other : (page : List ℕ) → length page ≡ pageShare → (j : ℕ) → j < ports → j ≢ k → pageOf (setPage rings k page) j ≡ pageOf rings j
-  unfolding pageOf setPage
-  pageOf-other page l j here ne =
+  pub length-setPages : (pages : List ℕ) → length pages ≡ g .bytes → length (setPages g rings k pages) ≡ length rings
+  unfolding setPages
+  length-setPages pages l = length-setPart (g .bytes) rings (ringShare * k) pages fit l
+
+  -- and every other port's are as before, whatever its ring
+  pub pagesOf-other : (pages : List ℕ) → length pages ≡ g .bytes → (h : Ring) → Fits h → (j : ℕ) → j < ports → j ≢ k
+      → pagesOf h (setPages g rings k pages) j ≡ pagesOf h rings j
+  unfolding pagesOf setPages
+  pagesOf-other pages l h e j here ne =
       elim (decLt j k) [
-        | yes o ↦ part-setPart-below pageShare rings (pageShare * k) page (omega arith) l pageShare (pageShare * j) (omega arith)
-        | no o ↦ part-setPart-above pageShare rings (pageShare * k) page (omega arith) l pageShare (pageShare * j) (omega arith)
+        | yes o ↦ part-setPart-below (g .bytes) rings (ringShare * k) pages fit l (h .bytes) (ringShare * j) (omega (arith, e .within, o))
+        | no o ↦ part-setPart-above (g .bytes) rings (ringShare * k) pages fit l (h .bytes) (ringShare * j) (omega (arith, e .within, f .within, o, ne))
       ]
 
-pub bytes-setPage : (rings : List ℕ) (k : ℕ) (page : List ℕ) → ((j : ℕ) → getD rings j 0 < 256) → ((j : ℕ) → getD page j 0 < 256)
-    → (j : ℕ) → getD (setPage rings k page) j 0 < 256
-unfolding setPage
-bytes-setPage rings k page h p = bytes-setPart pageShare rings (pageShare * k) page h p
+  -- and every byte outside them
+  pub getD-setPages : (pages : List ℕ) → length pages ≡ g .bytes → (m : ℕ) → (ringShare * k ≤ m → m < ringShare * k + g .bytes → ⊥)
+      → getD (setPages g rings k pages) m 0 ≡ getD rings m 0
+  unfolding setPages
+  getD-setPages pages l m out =
+      elim (decLt m (ringShare * k)) [
+        | yes o ↦ getD-setPart-below (g .bytes) rings (ringShare * k) pages fit l m o
+        | no o ↦
+            elim (decLt m (ringShare * k + g .bytes)) [
+              | yes u ↦ absurd (out (omega (arith, o)) u)
+              | no u ↦ getD-setPart-above (g .bytes) rings (ringShare * k) pages fit l m (omega (arith, u))
+            ]
+      ]
+
+pub bytes-setPages : (g : Ring) (rings : List ℕ) (k : ℕ) (pages : List ℕ) → ((j : ℕ) → getD rings j 0 < 256) → ((j : ℕ) → getD pages j 0 < 256)
+    → (j : ℕ) → getD (setPages g rings k pages) j 0 < 256
+unfolding setPages
+bytes-setPages g rings k pages h p = bytes-setPart (g .bytes) rings (ringShare * k) pages h p
+
+-- The header is reached in the rings at the same place, whatever the port's ring: req_prod read,
+module _ (g : Ring) (room : headerSize ≤ g .bytes) (within : g .bytes ≤ ringShare) (rings : List ℕ) (k : ℕ) (sized : length rings ≡ ringsLength) (small : k < ports) where
+  pub req-prod-at : load 4 rings (ringShare * k + reqProdAt) ≡ reqProd (pagesOf g rings k)
+  unfolding reqProd pagesOf
+  req-prod-at = sym (load-part 4 (g .bytes) rings (ringShare * k) reqProdAt (omega arith))
+
+  -- and req_event written
+  pub req-event-at : (v : ℕ) → store 4 rings (ringShare * k + reqEventAt) v ≡ setPages g rings k (setReqEvent (pagesOf g rings k) v)
+  unfolding setPages setReqEvent pagesOf
+  req-event-at v = sym (setPart-store 4 (g .bytes) rings (ringShare * k) reqEventAt v (omega arith) (omega arith))
 
 -- ---- requests
 
@@ -58,9 +87,9 @@ pub request-fits : (l : Layout) (slot : List ℕ) → ((i : ℕ) → getD slot i
 unfolding requestOf
 request-fits l slot h = (load-lt 8 slot (l .idAt) h, h 0)
 
-pub slot-bytes : (g : Ring) (rings : List ℕ) (k i : ℕ) → ((j : ℕ) → getD rings j 0 < 256) → (j : ℕ) → getD (slotOf g (pageOf rings k) i) j 0 < 256
-unfolding slotOf pageOf
-slot-bytes g rings k i h = bytes-part _ _ _ (bytes-part pageShare rings (pageShare * k) h)
+pub slot-bytes : (g : Ring) (rings : List ℕ) (k i : ℕ) → ((j : ℕ) → getD rings j 0 < 256) → (j : ℕ) → getD (slotOf g (pagesOf g rings k) i) j 0 < 256
+unfolding slotOf pagesOf
+slot-bytes g rings k i h = bytes-part _ _ _ (bytes-part (g .bytes) rings (ringShare * k) h)
 
 -- ---- responses
 
@@ -123,8 +152,8 @@ module _ (l : Layout) (page : List ℕ) (at : ℕ) (q : Pair) (s : Status) where
         (statusBits-lt s)
 
 -- a response in the slot of an index, with rsp_prod after it
-module _ (g : Ring) (f : Fits g) (page : List ℕ) (produced : ℕ) (q : Pair) (s : Status) (sized : length page ≡ pageShare) where
-  pub length-responded : length (responded g page produced q s) ≡ pageShare
+module _ (g : Ring) (f : Fits g) (page : List ℕ) (produced : ℕ) (q : Pair) (s : Status) (sized : length page ≡ g .bytes) where
+  pub length-responded : length (responded g page produced q s) ≡ g .bytes
   unfolding responded setRspProd
   length-responded = length-store 4 _ 8 _ ∙ length-setResponse (g .layout) page (slotAt g produced) q s ∙ sized
 
@@ -153,7 +182,7 @@ module _ (g : Ring) (f : Fits g) (page : List ℕ) (produced : ℕ) (q : Pair) (
   unfolding rspProd responded setRspProd
   rspProd-responded =
       let long = length-setResponse (g .layout) page (slotAt g produced) q s in
-      load-store-lt 4 _ 8 (after produced) (omega arith) (omega arith)
+      load-store-lt 4 _ 8 (after produced) (omega (arith, f .room)) (omega arith)
 
   -- only rsp_prod and the slot are written,
   pub getD-responded : (m : ℕ) → (8 ≤ m → m < 12 → ⊥) → (slotAt g produced ≤ m → m < slotAt g produced + g .layout .slotSize → ⊥)

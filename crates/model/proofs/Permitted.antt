@@ -8,7 +8,7 @@ use native.Mathlib.Nat.{le-refl}
 use native.Mathlib.Omega.{arith}
 use lib.ListN.{length}
 use Rattle.model.specs.Base.{least, tally, modulus}
-use Rattle.model.specs.Buffers.{ports, ringsLength, pageOf}
+use Rattle.model.specs.Buffers.{ports, ringsLength, pagesOf, setPages}
 use Rattle.model.specs.Ring.{Ring, slotAt}
 use Rattle.model.specs.Port.{isClosed, isOpen, Holder, free, held, isFree, lowestFree}
 use Rattle.model.specs.Calls.{Call, Open, Close, Turn, Complete, Effect, Event}
@@ -29,7 +29,7 @@ use Rattle.model.specs.declared.TagId.{TagId}
 use Rattle.model.specs.declared.Turned.{Turned}
 use Rattle.model.proofs.Base.{clash, and-left, least-is, least-some}
 use Rattle.model.proofs.Ring.{Fits, fits, slotAt-modulus, slotOf-modulus}
-use Rattle.model.proofs.Page.{length-pageOf, pageOf-setPage, FitsPair, request-fits, slot-bytes, length-responded, pair-responded, status-responded}
+use Rattle.model.proofs.Page.{length-pagesOf, pagesOf-setPages, FitsPair, request-fits, slot-bytes, length-responded, pair-responded, status-responded}
 use Rattle.model.proofs.DueFacts.{Chosen, chosen-lt, Started, AnsweredNow, Finished, OpenFacts, CloseFacts, TurnFacts, CompleteFacts, Facts, FactsOf, facts-due, waits-room, names-one}
 use Rattle.model.proofs.Ledger.{held-count, held-fits}
 use Rattle.model.proofs.Conservation.{Sound, Carries, MayClose, MayStart, MayAnswer, MayFinish, MayAll, sound-none, sound-posts}
@@ -61,7 +61,7 @@ pub view-state : (k : ℕ) (h : List Event) → viewAt h .state k ≡ book k h .
 unfolding viewAt
 view-state k h = refl
 
-open-not-closed : (s : State) → isOpen s ≡ true → isClosed s ≡ false
+pub open-not-closed : (s : State) → isOpen s ≡ true → isClosed s ≡ false
 open-not-closed State.Closed e = clash e refl
 open-not-closed State.Open e = refl
 open-not-closed State.Broken e = refl
@@ -94,25 +94,26 @@ module _ (k : ℕ) (h : List Event) (o : Sound (book k h)) where
       → left ≡ respondedAt (viewAt h) rings k q z → Carries (said k left z (book k h)) q
   unfolding said respondedAt
   reads-response rings left q z opened sized small fit e =
-      let g = ringAt (viewAt h) k in
-      let f : Fits g = fits (viewAt h .params k) in
-      let r = viewAt h .produced k in
+      let g = ringIn (book k h) in
+      let f : Fits g = fits (book k h .params) in
       let n = length (book k h .answered) in
-      let page = responded g (pageOf rings k) r q z in
-      let long = length-pageOf rings k sized small in
-      let there : pageOf left k ≡ page = ap (λ (x : List ℕ). pageOf x k) e ∙ pageOf-setPage rings k sized small page (length-responded g f (pageOf rings k) r q z long) in
-      let place : slotAt (ringIn (book k h)) n ≡ slotAt g r =
-      rw (view-ring k h opened, view-produced k h opened) (sym (slotAt-modulus (ringIn (book k h)) (fits (book k h .params)) n)) in
+      let r = n % modulus in
+      let before = pagesOf g rings k in
+      let page = responded g before r q z in
+      let long = length-pagesOf g f rings k sized small in
+      let put : left ≡ setPages g rings k page = rw (view-ring k h opened, view-produced k h opened) at e in
+      let there : pagesOf g left k ≡ page = ap (λ (x : List ℕ). pagesOf g x k) put ∙ pagesOf-setPages g f rings k sized small page (length-responded g f before r q z long) in
+      let place : slotAt g n ≡ slotAt g r = sym (slotAt-modulus g f n) in
       record {
-        pair = rw (there, place) (pair-responded g f (pageOf rings k) r q z long fit);
-        status = rw (there, place) (status-responded g f (pageOf rings k) r q z long);
+        pair = rw (there, place) (pair-responded g f before r q z long fit);
+        status = rw (there, place) (status-responded g f before r q z long);
       }
 
   -- the request that the rules look at is the one that the history reads
   request-asked : (rings : List ℕ) → isClosed (book k h .state) ≡ false → requestAt (viewAt h) rings k .pair ≡ asked k rings (book k h)
   unfolding requestAt asked
   request-asked rings opened =
-      rw (view-ring k h opened, view-consumed k h opened, slotOf-modulus (ringIn (book k h)) (fits (book k h .params)) (pageOf rings k))
+      rw (view-ring k h opened, view-consumed k h opened, slotOf-modulus (ringIn (book k h)) (fits (book k h .params)) (pagesOf (ringIn (book k h)) rings k))
 
   asked-fits : (rings : List ℕ) → IsBytes rings → FitsPair (asked k rings (book k h))
   unfolding asked

@@ -7,7 +7,7 @@ use native.Mathlib.Omega.{arith}
 use lib.Dec.{eqb}
 use lib.ListN.{length}
 use borrow.Author.Tests.{eqb-true, eqb-false, eq-eqb}
-use Rattle.model.specs.Buffers.{pageOf}
+use Rattle.model.specs.Buffers.{pagesOf}
 use Rattle.model.specs.Port.{isClosed, zeroTag, busyBits, isBusy, closedPort, inFlightOf, Holder, free, held, isFree, View}
 use Rattle.model.specs.Calls.{Call, Event}
 use Rattle.model.specs.Turn.{serialOf, requestAt}
@@ -169,7 +169,7 @@ closed-is State.Broken e = clash e refl
 -- the request that the backend looks at is the one that the history reads
 tied-asked : (b : Backend) (k : ℕ) (c : Book) (lent : List ℕ) → Shape (b .port k) (b .tag k) c → requestAt (viewOf b) lent k .pair ≡ asked k lent c
 unfolding requestAt viewOf asked
-tied-asked b k c lent w = rw (w .params, w .consumed, slotOf-modulus (ringIn c) (fits (c .params)) (pageOf lent k))
+tied-asked b k c lent w = rw (w .params, w .consumed, slotOf-modulus (ringIn c) (fits (c .params)) (pagesOf (ringIn c) lent k))
 
 -- what is put is read back, and the others stay
 pub own-port : (b : Backend) (k : ℕ) (p : Port) → withPort b k p .port k ≡ p

@@ -3,27 +3,30 @@
 use mathlib.Core.Path.{_≡_, refl, ap, subst, _∙_}
 use mathlib.Core.List.{List, _∷_}
 use Prim.Native.Nat.{ℕ, zero, suc, _+_, _*_, _%_, _≤_, _<_}
-use native.Mathlib.Nat.{mod-mod-of-dvd, dvd-of-mod-eq-zero, mod-lt, mul-le-mul-left, mul-suc}
+use native.Mathlib.Nat.{mod-mod-of-dvd, dvd-of-mod-eq-zero, mod-lt, mul-le-mul-left, mul-le-mul-right, mul-suc}
 use native.Mathlib.Omega.{arith}
 use lib.ListN.{getD}
 use Rattle.wire.specs.LittleEndian.{load}
 use Rattle.wire.specs.Part.{part}
 use Rattle.wire.proofs.LittleEndian.{load-shift}
 use Rattle.model.specs.Base.{modulus}
-use Rattle.model.specs.Buffers.{pageShare}
-use Rattle.model.specs.Ring.{Layout, Ring, headerSize, ringSlots, headSize, restSize, segmentSize, segmentFirstAt, segmentLastAt, requestOperationAt, requestCountAt, responsePaddingAt, ringFor, ringOf, slotAt, slotOf, segmentOf, segmentsOf, requestOf}
+use Rattle.model.specs.Buffers.{ringShare}
+use Rattle.model.specs.Ring.{Layout, Ring, headerSize, slotBytes, pageBytes, pageSlots, pageCount, headSize, restSize, segmentSize, segmentFirstAt, segmentLastAt, requestOperationAt, requestCountAt, responsePaddingAt, ringFor, ringOf, slotAt, slotOf, segmentOf, segmentsOf, requestOf}
 use Rattle.model.specs.Port.{busyBits}
 use Rattle.model.specs.Checks.{maxSegments}
 use Rattle.model.specs.declared.Abi.{Abi}
+use Rattle.model.specs.declared.Pages.{Pages}
 use Rattle.model.specs.declared.Params.{Params}
 
 pub record Fits (g : Ring) : Type 0 where
-  -- there is a slot, indices modulo 2^32 keep their slots, and each slot has a mark
+  -- there is a slot, there are as many as one page has, indices modulo 2^32 keep their slots, and each slot has a mark
   pub some : 0 < g .size
+  pub least : pageSlots ≤ g .size
   pub whole : modulus % g .size ≡ 0
   pub marked : g .size ≤ busyBits
-  -- the slots end within the page
-  pub room : headerSize + g .layout .slotSize * g .size ≤ pageShare
+  -- the slots end within the pages, and those within the port's share
+  pub room : headerSize + g .layout .slotSize * g .size ≤ g .bytes
+  pub within : g .bytes ≤ ringShare
   -- a response has room for its status, and ends within the slot
   pub statusRoom : responsePaddingAt ≤ g .layout .responseSize
   pub responseRoom : g .layout .responseSize ≤ g .layout .slotSize
@@ -34,14 +37,29 @@ pub record Fits (g : Ring) : Type 0 where
   pub segmentsEnd : g .layout .slotSize ≡ g .layout .segmentsAt + segmentSize * maxSegments
   pub slotEnd : g .layout .slotSize ≡ g .layout .idAt + restSize
 
+-- what is asked of the slots and bytes of so many pages, for slots of any layout
+record Sized (size bytes : ℕ) : Type 0 where
+  least : pageSlots ≤ size
+  whole : modulus % size ≡ 0
+  marked : size ≤ busyBits
+  room : headerSize + slotBytes * size ≤ bytes
+  within : bytes ≤ ringShare
+
+sized : (n : Pages) → Sized (pageSlots * pageCount n) (pageBytes * pageCount n)
+sized Pages.One = record { least = omega arith; whole = refl; marked = omega arith; room = omega arith; within = omega arith }
+sized Pages.Two = record { least = omega arith; whole = refl; marked = omega arith; room = omega arith; within = omega arith }
+
 -- so these numbers of a layout settle the others
-fits-from : (l : Layout) → l .startAt ≡ l .idAt + 8 → l .segmentsAt ≡ l .idAt + 16 → l .slotSize ≡ l .idAt + restSize → headSize ≤ l .idAt → l .idAt ≤ 8
-    → responsePaddingAt ≤ l .responseSize → l .responseSize ≤ restSize → Fits (record { layout = l; size = ringSlots })
-fits-from l start segments slot head id status response = record {
-  some = omega arith;
-  whole = refl;
-  marked = omega arith;
-  room = omega arith;
+fits-from : (l : Layout) (size bytes : ℕ) → Sized size bytes → l .startAt ≡ l .idAt + 8 → l .segmentsAt ≡ l .idAt + 16 → l .slotSize ≡ l .idAt + restSize
+    → headSize ≤ l .idAt → l .idAt ≤ 8 → responsePaddingAt ≤ l .responseSize → l .responseSize ≤ restSize
+    → Fits (record { layout = l; size = size; bytes = bytes })
+fits-from l size bytes z start segments slot head id status response = record {
+  some = omega (arith, z .least);
+  least = z .least;
+  whole = z .whole;
+  marked = z .marked;
+  room = let narrow : l .slotSize * size ≤ slotBytes * size = mul-le-mul-right size (omega arith) in omega (arith, z .room);
+  within = z .within;
   statusRoom = status;
   responseRoom = omega arith;
   headRoom = head;
@@ -51,15 +69,19 @@ fits-from l start segments slot head id status response = record {
   slotEnd = slot;
 }
 
-pub fits-for : (a : Abi) → Fits (ringFor a)
+pub fits-for : (a : Abi) (n : Pages) → Fits (ringFor a n)
 unfolding ringFor
-fits-for Abi.Bits64 = fits-from _ refl refl refl (omega arith) (omega arith) (omega arith) (omega arith)
-fits-for Abi.Bits32 = fits-from _ refl refl refl (omega arith) (omega arith) (omega arith) (omega arith)
+fits-for Abi.Bits64 n = fits-from _ _ _ (sized n) refl refl refl (omega arith) (omega arith) (omega arith) (omega arith)
+fits-for Abi.Bits32 n = fits-from _ _ _ (sized n) refl refl refl (omega arith) (omega arith) (omega arith) (omega arith)
 
 pub fits : (p : Params) → Fits (ringOf p)
-fits p = fits-for (p .abi)
+fits p = fits-for (p .abi) (p .pages)
 
 module _ (g : Ring) (f : Fits g) where
+  -- the pages have the header
+  pub header-room : headerSize ≤ g .bytes
+  header-room = omega (arith, f .room)
+
   -- an index and its remainder modulo 2^32 have one slot
   pub slotAt-modulus : (i : ℕ) → slotAt g (i % modulus) ≡ slotAt g i
   unfolding slotAt
@@ -70,8 +92,8 @@ module _ (g : Ring) (f : Fits g) where
   unfolding slotOf
   slotOf-modulus page i = ap (λ (j : ℕ). part (g .layout .slotSize) page j) (slotAt-modulus i)
 
-  -- a slot ends within the page
-  pub slotAt-room : (i : ℕ) → slotAt g i + g .layout .slotSize ≤ pageShare
+  -- a slot ends within the pages
+  pub slotAt-room : (i : ℕ) → slotAt g i + g .layout .slotSize ≤ g .bytes
   unfolding slotAt
   slotAt-room i =
       let n = g .layout .slotSize in

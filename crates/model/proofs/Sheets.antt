@@ -9,6 +9,7 @@ use Rattle.wire.specs.Part.{part}
 use Rattle.model.specs.Base.{all, same}
 use Rattle.model.specs.NodeSheet.{Entry, entryAt, bodyLength, entriesFrom, entriesOf, bodiesEnd, wellFormed, rising, isDigit, digitsFrom, capped, digitsOf, numberOf, choiceBody, numberBody, isSectorSize, isAllowed, bodyOf, afterBody, afterBodies, valueOf, absent, valuesOf, present, paramsOf, hasRequired, sheetOf}
 use Rattle.model.specs.declared.Abi.{Abi}
+use Rattle.model.specs.declared.Pages.{Pages}
 use Rattle.model.specs.declared.Params.{Params}
 use Rattle.model.specs.declared.SectorSize.{SectorSize}
 use Rattle.model.specs.declared.Sheet.{Sheet}
@@ -39,6 +40,10 @@ size512 = node 6 (53 ∷ 49 ∷ 50 ∷ [])
 
 abbrev sectors2008 : Entry
 sectors2008 = node 7 (50 ∷ 48 ∷ 48 ∷ 56 ∷ [])
+
+-- protocol "x86_32-abi"
+abbrev bits32 : Entry
+bits32 = node 8 (120 ∷ 56 ∷ 54 ∷ 95 ∷ 51 ∷ 50 ∷ 45 ∷ 97 ∷ 98 ∷ 105 ∷ [])
 
 -- ---- the sheets
 
@@ -84,8 +89,9 @@ refused =
     ∷ judged 13 (laid (writable ∷ size512 ∷ node 7 (48 ∷ 50 ∷ 48 ∷ 48 ∷ 56 ∷ []) ∷ []))
     -- sectors "+8"
     ∷ judged 13 (laid (writable ∷ size512 ∷ node 7 (43 ∷ 56 ∷ []) ∷ []))
-    -- ring-page-order "00" and ""
+    -- ring-page-order "00", "01" and ""
     ∷ judged 13 (laid (writable ∷ size512 ∷ sectors2008 ∷ node 9 (48 ∷ 48 ∷ []) ∷ []))
+    ∷ judged 13 (laid (writable ∷ size512 ∷ sectors2008 ∷ node 9 (48 ∷ 49 ∷ []) ∷ []))
     ∷ judged 13 (laid (writable ∷ size512 ∷ sectors2008 ∷ node 9 [] ∷ []))
     -- a faulty body comes before a missing node
     ∷ judged 13 (laid (node 3 [] ∷ []))
@@ -93,8 +99,9 @@ refused =
     ∷ judged 14 (laid (writable ∷ node 6 (53 ∷ 49 ∷ 51 ∷ []) ∷ sectors2008 ∷ node 8 (120 ∷ []) ∷ []))
     -- sectors 2^64
     ∷ judged 14 (laid (writable ∷ size512 ∷ node 7 (49 ∷ 56 ∷ 52 ∷ 52 ∷ 54 ∷ 55 ∷ 52 ∷ 52 ∷ 48 ∷ 55 ∷ 51 ∷ 55 ∷ 48 ∷ 57 ∷ 53 ∷ 53 ∷ 49 ∷ 54 ∷ 49 ∷ 54 ∷ []) ∷ []))
-    -- ring-page-order "1"
-    ∷ judged 14 (laid (writable ∷ size512 ∷ sectors2008 ∷ node 9 (49 ∷ []) ∷ []))
+    -- ring-page-order "2" and "11"
+    ∷ judged 14 (laid (writable ∷ size512 ∷ sectors2008 ∷ node 9 (50 ∷ []) ∷ []))
+    ∷ judged 14 (laid (writable ∷ size512 ∷ sectors2008 ∷ node 9 (49 ∷ 49 ∷ []) ∷ []))
     -- no entry at all
     ∷ judged 15 (0 ∷ [])
     -- each of 1, 6 and 7 missing
@@ -104,8 +111,8 @@ refused =
     ∷ []
 
 -- a writable disk with these features
-abbrev offering : Bool → Bool → Bool → Bool → Abi → ℕ → Params
-offering barrier flush discard secure abi sectors = record {
+abbrev offering : Bool → Bool → Bool → Bool → Abi → Pages → ℕ → Params
+offering barrier flush discard secure abi pages sectors = record {
   writable = true;
   barrier = barrier;
   flush = flush;
@@ -114,10 +121,11 @@ offering barrier flush discard secure abi sectors = record {
   sector = SectorSize.Bytes512;
   sectors = sectors;
   abi = abi;
+  pages = pages;
 }
 
--- one with none, for a guest of a layout
-abbrev disk : Abi → ℕ → Params
+-- one with none, for a guest of a layout, with a ring of so many pages
+abbrev disk : Abi → Pages → ℕ → Params
 disk = offering false false false false
 
 -- the usual one with one of them, as its sheet says and as it is read
@@ -126,7 +134,7 @@ record One : Type 0 where
   params : Params
 
 abbrev one : ℕ → Bool → Bool → Bool → Bool → One
-one n barrier flush discard secure = record { by = n; params = offering barrier flush discard secure Abi.Bits64 2008 }
+one n barrier flush discard secure = record { by = n; params = offering barrier flush discard secure Abi.Bits64 Pages.One 2008 }
 
 ones : List One
 ones = one 2 true false false false ∷ one 3 false true false false ∷ one 4 false false true false ∷ one 5 false false false true ∷ []
@@ -136,11 +144,14 @@ record Computed : Type 0 where
   -- the worked sheet (rule 3.12)
   whole :
       sheetOf (0x03 ∷ 0x01 ∷ 0x00 ∷ 0x01 ∷ 0x00 ∷ 0x06 ∷ 0x00 ∷ 0x03 ∷ 0x00 ∷ 0x07 ∷ 0x00 ∷ 0x04 ∷ 0x00 ∷ 0x77 ∷ 0x35 ∷ 0x31 ∷ 0x32 ∷ 0x32 ∷ 0x30 ∷ 0x30 ∷ 0x38 ∷ [])
-      ≡ Sheet.Read (disk Abi.Bits64 2008)
+      ≡ Sheet.Read (disk Abi.Bits64 Pages.One 2008)
   -- a disk without sectors is one (rule 3.5)
-  noSectors : sheetOf (laid (writable ∷ size512 ∷ node 7 (48 ∷ []) ∷ [])) ≡ Sheet.Read (disk Abi.Bits64 0)
+  noSectors : sheetOf (laid (writable ∷ size512 ∷ node 7 (48 ∷ []) ∷ [])) ≡ Sheet.Read (disk Abi.Bits64 Pages.One 0)
   -- a 32-bit guest's (rule 3.5)
-  narrow : sheetOf (laid (writable ∷ size512 ∷ sectors2008 ∷ node 8 (120 ∷ 56 ∷ 54 ∷ 95 ∷ 51 ∷ 50 ∷ 45 ∷ 97 ∷ 98 ∷ 105 ∷ []) ∷ [])) ≡ Sheet.Read (disk Abi.Bits32 2008)
+  narrow : sheetOf (laid (writable ∷ size512 ∷ sectors2008 ∷ bits32 ∷ [])) ≡ Sheet.Read (disk Abi.Bits32 Pages.One 2008)
+  -- one with a ring of two pages (rule 3.5), and both
+  twoPages : sheetOf (laid (writable ∷ size512 ∷ sectors2008 ∷ node 9 (49 ∷ []) ∷ [])) ≡ Sheet.Read (disk Abi.Bits64 Pages.Two 2008)
+  narrowTwoPages : sheetOf (laid (writable ∷ size512 ∷ sectors2008 ∷ bits32 ∷ node 9 (49 ∷ []) ∷ [])) ≡ Sheet.Read (disk Abi.Bits32 Pages.Two 2008)
   -- each feature by its own node (rule 3.5)
   features : map (λ (o : One). sheetOf (laid (writable ∷ node (o .by) (49 ∷ []) ∷ size512 ∷ sectors2008 ∷ []))) ones ≡ map (λ (o : One). Sheet.Read (o .params)) ones
   -- every node, with the largest number of sectors
@@ -155,8 +166,9 @@ record Computed : Type 0 where
         sector = SectorSize.Bytes4096;
         sectors = 18446744073709551615;
         abi = Abi.Bits64;
+        pages = Pages.One;
       })
 
 computed : Computed
 unfolding contents bodies laid refused ones load part all same entryAt bodyLength entriesFrom entriesOf bodiesEnd wellFormed rising isDigit digitsFrom capped digitsOf numberOf choiceBody numberBody isSectorSize isAllowed bodyOf afterBody afterBodies valueOf absent valuesOf present paramsOf hasRequired sheetOf
-computed = record { refusals = refl; whole = refl; noSectors = refl; narrow = refl; features = refl; everyNode = refl }
+computed = record { refusals = refl; whole = refl; noSectors = refl; narrow = refl; twoPages = refl; narrowTwoPages = refl; features = refl; everyNode = refl }

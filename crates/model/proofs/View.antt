@@ -4,7 +4,7 @@ use mathlib.Core.List.{List}
 use Prim.Native.Nat.{ℕ}
 use lib.Dec.{eqb}
 use Rattle.model.specs.Backend.{Backend, viewOf}
-use Rattle.model.specs.Buffers.{pageOf, setPage}
+use Rattle.model.specs.Buffers.{pagesOf, setPages}
 use Rattle.model.specs.Port.{after, inFlightOf}
 use Rattle.model.specs.Ring.{ringOf, rspEvent}
 use Rattle.model.specs.Turn.{responded, respondedAt, notifies}
@@ -31,10 +31,10 @@ module _ (b : Backend) (k : ℕ) where
   -- a response given
   module _ (rings : List ℕ) where
     pub view-responded : (q : Pair) (s : Status)
-        → respondedAt (viewOf b) rings k q s ≡ setPage rings k (responded (ringOf (b .port k .params)) (pageOf rings k) (b .port k .produced) q s)
+        → respondedAt (viewOf b) rings k q s ≡ (let g = ringOf (b .port k .params) in setPages g rings k (responded g (pagesOf g rings k) (b .port k .produced) q s))
     unfolding respondedAt viewOf
     view-responded q s = refl
 
-    pub view-notifies : notifies (viewOf b) rings k ≡ eqb (rspEvent (pageOf rings k)) (after (b .port k .produced))
+    pub view-notifies : notifies (viewOf b) rings k ≡ eqb (rspEvent (pagesOf (ringOf (b .port k .params)) rings k)) (after (b .port k .produced))
     unfolding notifies viewOf
     view-notifies = refl

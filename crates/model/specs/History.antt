@@ -8,7 +8,7 @@ use mathlib.Core.Option.{Option, none, some}
 use lib.Dec.{eqb}
 use lib.ListN.{length}
 use Rattle.model.specs.Base.{modulus}
-use Rattle.model.specs.Buffers.{pageOf}
+use Rattle.model.specs.Buffers.{pagesOf}
 use Rattle.model.specs.Ring.{Ring, reqProd, ringOf, slotAt, slotOf, requestOf, responsePair, responseStatus}
 use Rattle.model.specs.Port.{isClosed, isOpen, zeroParams, Holder, free, held, View}
 use Rattle.model.specs.Calls.{Call, Event}
@@ -58,14 +58,15 @@ ringIn b = ringOf (b .params)
 
 -- The pair of the next request of port k, in the rings lent: its slot is that of the number of requests taken before it (rule 12.12).
 unfoldable pub asked : ℕ → List ℕ → Book → Pair
-asked k lent b = requestOf (ringIn b .layout) (slotOf (ringIn b) (pageOf lent k) (length (b .taken))) .pair
+asked k lent b = requestOf (ringIn b .layout) (slotOf (ringIn b) (pagesOf (ringIn b) lent k) (length (b .taken))) .pair
 
 -- The next answer of port k, in the rings left: its slot is that of the number of answers given before it (rule 12.15). `told` is the status of the call's
 -- answer.
 unfoldable pub said : ℕ → List ℕ → Status → Book → Response
 said k left told b =
     let at = slotAt (ringIn b) (length (b .answered)) in
-    record { pair = responsePair (pageOf left k) at; status = responseStatus (pageOf left k) at; told = told }
+    let pages = pagesOf (ringIn b) left k in
+    record { pair = responsePair pages at; status = responseStatus pages at; told = told }
 
 -- it was started under this tag and serial (rule 12.14)
 abbrev pub names : ℕ → ℕ → Named → Bool
@@ -175,7 +176,7 @@ viewAt h = record {
 -- (rule 12.17).
 unfoldable pub hasToServe : ℕ → List Event → List ℕ → Bool
 hasToServe k h lent =
-    isOpen (book k h .state) && not (eqb (reqProd (pageOf lent k) % modulus) (length (book k h .taken) % modulus))
+    isOpen (book k h .state) && not (eqb (reqProd (pagesOf (ringIn (book k h)) lent k) % modulus) (length (book k h .taken) % modulus))
 
 -- a turn as a port sees it: had this port something to serve, and which port was served?
 pub record Seen : Type 0 where

@@ -1,5 +1,5 @@
 -- Section 9 of docs/RULES.md: the worked cases with a star, as one list of tests that the checker computes (rule 9.1). The others (rules 9.7, 9.12, 9.13, 9.19 to
--- 9.21 and 9.25) are run through the code.
+-- 9.21, 9.25 and 9.42 to 9.44) are run through the code.
 use Prim.Native.Nat.{ℕ, zero, suc, _+_, _*_}
 use mathlib.Core.Bool.{Bool, true, false, not, cond}
 use mathlib.Core.List.{List, [], _∷_}
@@ -7,20 +7,23 @@ use lib.Dec.{eqb}
 use lib.IntN.{ℤ, pos, negsuc}
 use lib.ListN.{replicate, set}
 use Rattle.wire.specs.LittleEndian.{store}
-use Rattle.model.specs.Ring.{Layout, layoutOf, ringOf, requestOf, statusBits, read, write, barrier, discard}
-use Rattle.model.specs.Port.{inFlightOf, distance, pendingOf}
+use Rattle.model.specs.Ring.{Layout, layoutOf, requestOf, statusBits, read, write, barrier, discard}
+use Rattle.model.specs.Port.{inFlightOf, View, free}
 use Rattle.model.specs.Plan.{verdictOf}
+use Rattle.model.specs.Turn.{pendingAt}
 use Rattle.model.specs.Complete.{statusOf}
 use Rattle.model.specs.declared.Abi.{Abi}
+use Rattle.model.specs.declared.Pages.{Pages}
 use Rattle.model.specs.declared.Params.{Params}
 use Rattle.model.specs.declared.Pending.{Pending}
 use Rattle.model.specs.declared.SectorSize.{SectorSize}
+use Rattle.model.specs.declared.State.{State}
 use Rattle.model.specs.declared.Status.{Status}
 use Rattle.model.specs.declared.Verdict.{Verdict}
 
--- a disk with every feature, secure discards or not; `usual` is that of section 9
-abbrev diskWith : Bool → Bool → SectorSize → ℕ → Params
-diskWith secure writable size sectors = record {
+-- a disk with every feature, secure discards or not, and a ring of so many pages; `usual` is that of section 9
+abbrev diskWith : Bool → Bool → SectorSize → ℕ → Pages → Params
+diskWith secure writable size sectors pages = record {
   writable = writable;
   barrier = true;
   flush = true;
@@ -29,17 +32,18 @@ diskWith secure writable size sectors = record {
   sector = size;
   sectors = sectors;
   abi = Abi.Bits64;
+  pages = pages;
 }
 
 abbrev disk : Bool → SectorSize → ℕ → Params
-disk = diskWith true
+disk writable size sectors = diskWith true writable size sectors Pages.One
 
 abbrev usual : Params
 usual = disk true SectorSize.Bytes512 2008
 
 -- the usual one without secure discards (rules 9.35 and 9.38)
 abbrev insecure : Bool → Params
-insecure writable = diskWith false writable SectorSize.Bytes512 2008
+insecure writable = diskWith false writable SectorSize.Bytes512 2008 Pages.One
 
 -- grants that say one thing of frame 5, and nothing of any other
 abbrev grant : ℕ → List ℕ
@@ -88,9 +92,21 @@ overruns Pending.Nothing = false
 overruns Pending.Waits = false
 overruns Pending.Overrun = true
 
--- what req_prod says where both indices are 5, and so no tag is busy (rules 9.17 and 9.18)
-abbrev at5 : ℕ → Pending
-at5 reqProd = pendingOf (ringOf usual .size) (inFlightOf 0) (distance reqProd 5)
+-- open ports with both indices 5, and so no tag busy, and rings of so many pages
+abbrev ports5 : Pages → View
+ports5 n = record {
+  state = λ k. State.Open;
+  params = λ k. diskWith true true SectorSize.Bytes512 2008 n;
+  consumed = λ k. 5;
+  produced = λ k. 5;
+  inFlight = λ k. inFlightOf 0;
+  tag = λ k t. free;
+  pointer = 0;
+}
+
+-- what req_prod says there (rules 9.17, 9.18, 9.40 and 9.41)
+abbrev at5 : Pages → ℕ → Pending
+at5 n reqProd = pendingAt (ports5 n) (store 4 (replicate 16 0) 0 reqProd) 0
 
 -- what a result comes to where 8 is expected (rules 9.22 to 9.24)
 abbrev comesTo : ℤ → Status → Bool
@@ -156,10 +172,16 @@ starred =
     -- rule 9.16: 24 comes before 25
     ∷ refused 24 (judge (disk false SectorSize.Bytes512 2008) (grant 2) (slot write 12 2000 0 7))
     -- rule 9.17: a full ring
-    ∷ waits (at5 37)
+    ∷ waits (at5 Pages.One 37)
     -- rule 9.18: one more than that, and an index that moved back
-    ∷ overruns (at5 38)
-    ∷ overruns (at5 4)
+    ∷ overruns (at5 Pages.One 38)
+    ∷ overruns (at5 Pages.One 4)
+    -- rule 9.40: a ring of two pages is full later
+    ∷ waits (at5 Pages.Two 38)
+    ∷ waits (at5 Pages.Two 69)
+    -- rule 9.41
+    ∷ overruns (at5 Pages.Two 70)
+    ∷ overruns (at5 Pages.Two 4)
     -- rule 9.22
     ∷ comesTo (pos 8) Status.Okay
     -- rule 9.23

@@ -11,6 +11,7 @@ use Rattle.model.specs.Base.{_⇒_, firstOf, all, same}
 use Rattle.model.specs.declared.Abi.{Abi}
 use Rattle.model.specs.declared.Body.{Body}
 use Rattle.model.specs.declared.Number.{Number}
+use Rattle.model.specs.declared.Pages.{Pages}
 use Rattle.model.specs.declared.Params.{Params}
 use Rattle.model.specs.declared.SectorSize.{SectorSize}
 use Rattle.model.specs.declared.Sheet.{Sheet}
@@ -116,9 +117,9 @@ protocol64 = 120 ∷ 56 ∷ 54 ∷ 95 ∷ 54 ∷ 52 ∷ 45 ∷ 97 ∷ 98 ∷ 105
 abbrev pub protocol32 : List ℕ
 protocol32 = 120 ∷ 56 ∷ 54 ∷ 95 ∷ 51 ∷ 50 ∷ 45 ∷ 97 ∷ 98 ∷ 105 ∷ []
 
--- which numbers may stand at a node: a sector size, any count of sectors, page order 0 (rules 3.5 and 7.14)
+-- which numbers may stand at a node: a sector size, any count of sectors, page order 0 or 1 (rules 3.5 and 7.14)
 unfoldable pub isAllowed : ℕ → ℕ → Bool
-isAllowed node v = firstOf (eqb node 6 ⇒ isSectorSize v ∷ eqb node 7 ⇒ true ∷ []) (eqb v 0)
+isAllowed node v = firstOf (eqb node 6 ⇒ isSectorSize v ∷ eqb node 7 ⇒ true ∷ []) (leb v 1)
 
 -- a node's body, by the table of rule 3.5; a node that is not there was refused with 12 before (rule 3.10)
 unfoldable pub bodyOf : ℕ → List ℕ → Body
@@ -170,13 +171,17 @@ absent node = cond (eqb node 6) 512 0
 unfoldable pub valuesOf : List Entry → ℕ → ℕ
 valuesOf es node = valueOf node (absent node) es
 
--- a choice of two, as yes or no: "w" and "1" are yes, and of the protocols the 32-bit one (rule 3.5)
+-- a choice of two, as yes or no: "w" and "1" are yes, a page order of 1 too, and of the protocols the 32-bit one (rule 3.5)
 abbrev pub isOn : ℕ → Bool
 isOn v = eqb v 1
 
 -- the layout of a protocol (rules 1.16 and 3.5)
 abbrev pub abiFor : ℕ → Abi
 abiFor v = cond (isOn v) Abi.Bits32 Abi.Bits64
+
+-- the pages of a page order (rules 2.3 and 3.5)
+abbrev pub pagesFor : ℕ → Pages
+pagesFor v = cond (isOn v) Pages.Two Pages.One
 
 -- what the values of the nodes say of a port (rule 3.5)
 unfoldable pub paramsOf : (ℕ → ℕ) → Params
@@ -189,6 +194,7 @@ paramsOf value = record {
   sector = sectorSizeOf (value 6);
   sectors = value 7;
   abi = abiFor (value 8);
+  pages = pagesFor (value 9);
 }
 
 -- the nodes that no sheet may lack (rules 3.6 and 7.15)

@@ -5,6 +5,7 @@ use mathlib.Core.List.{[], _∷_}
 use lib.Dec.{eqb, leb}
 use Rattle.model.specs.Base.{_⇒_, firstOf, least, tally, modulus}
 use Rattle.model.specs.declared.Abi.{Abi}
+use Rattle.model.specs.declared.Pages.{Pages}
 use Rattle.model.specs.declared.Params.{Params}
 use Rattle.model.specs.declared.Pending.{Pending}
 use Rattle.model.specs.declared.Port.{Port}
@@ -34,6 +35,7 @@ zeroParams = record {
   sector = SectorSize.Bytes512;
   sectors = 0;
   abi = Abi.Bits64;
+  pages = Pages.One;
 }
 
 abbrev pub closedPort : Port

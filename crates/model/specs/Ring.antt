@@ -1,4 +1,4 @@
--- Section 2 of docs/RULES.md: the header of a ring page, its slots, a request read from a slot, a response written to one. Numbers are little-endian
+-- Section 2 of docs/RULES.md: the header of a ring, its slots, a request read from a slot, a response written to one. Numbers are little-endian
 -- (rule 2.1), by `load` and `store`.
 use Prim.Native.Nat.{ℕ, zero, suc, _+_, _-_, _*_, _%_}
 use mathlib.Core.List.{List, [], _∷_}
@@ -9,6 +9,7 @@ use mir.Val.{ofZ}
 use Rattle.wire.specs.LittleEndian.{load, store}
 use Rattle.wire.specs.Part.{part}
 use Rattle.model.specs.declared.Abi.{Abi}
+use Rattle.model.specs.declared.Pages.{Pages}
 use Rattle.model.specs.declared.Params.{Params}
 use Rattle.model.specs.declared.Pair.{Pair}
 use Rattle.model.specs.declared.Segment.{Segment}
@@ -81,24 +82,33 @@ headSize = 4
 abbrev pub restSize : ℕ
 restSize = 104
 
--- A port's ring: its layout, and how many slots it has (rule 2.3).
+-- A port's ring: its layout, how many slots it has, and how many bytes (rules 1.3 and 2.3).
 pub record Ring : Type 0 where
   pub layout : Layout
   pub size : ℕ
+  pub bytes : ℕ
 
--- the slots of a ring in one page (rule 2.3)
-abbrev pub ringSlots : ℕ
-ringSlots = 32
+-- the bytes of a page, and the slots that a ring has for each of its pages (rules 1.3 and 2.3)
+abbrev pub pageBytes : ℕ
+pageBytes = 4096
 
--- the ring of a layout, in one page (rules 1.16 and 2.3)
-unfoldable pub ringFor : Abi → Ring
-ringFor a = record { layout = layoutOf a; size = ringSlots }
+abbrev pub pageSlots : ℕ
+pageSlots = 32
+
+-- how many pages these are (rule 2.3)
+abbrev pub pageCount : Pages → ℕ
+pageCount Pages.One = 1
+pageCount Pages.Two = 2
+
+-- the ring of a layout, in so many pages (rules 1.16 and 2.3)
+unfoldable pub ringFor : Abi → Pages → Ring
+ringFor a n = record { layout = layoutOf a; size = pageSlots * pageCount n; bytes = pageBytes * pageCount n }
 
 -- the ring that a node sheet asks for (rule 3.5)
 abbrev pub ringOf : Params → Ring
-ringOf p = ringFor (p .abi)
+ringOf p = ringFor (p .abi) (p .pages)
 
--- where in its page the slot of index i begins (rule 2.4)
+-- where in its pages the slot of index i begins (rule 2.4)
 unfoldable pub slotAt : Ring → ℕ → ℕ
 slotAt g i = headerSize + g .layout .slotSize * (i % g .size)
 

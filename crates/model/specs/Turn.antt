@@ -5,7 +5,7 @@ use mathlib.Core.Bool.{Bool, cond, _&&_}
 use mathlib.Core.List.{List}
 use lib.Dec.{eqb, ltb}
 use Rattle.model.specs.Base.{least}
-use Rattle.model.specs.Buffers.{ports, pageOf, setPage, grantsOf}
+use Rattle.model.specs.Buffers.{ports, pagesOf, setPages, grantsOf}
 use Rattle.model.specs.Ring.{Ring, Request, reqProd, setReqEvent, setRspProd, rspEvent, ringOf, slotAt, slotOf, requestOf, setResponse}
 use Rattle.model.specs.Port.{isOpen, View, lowestFree, distance, pendingOf, isWork, after}
 use Rattle.model.specs.Plan.{verdictOf, noWords, wordsBeside}
@@ -33,9 +33,13 @@ serialOf s = record { 0 = s }
 abbrev pub ringAt : View → ℕ → Ring
 ringAt v k = ringOf (v .params k)
 
+-- and its pages, as its ring has them (rule 1.3)
+abbrev pub pagesAt : View → List ℕ → ℕ → List ℕ
+pagesAt v rings k = pagesOf (ringAt v k) rings k
+
 -- what port k's req_prod says (rules 4.11 and 4.12)
 unfoldable pub pendingAt : View → List ℕ → ℕ → Pending
-pendingAt v rings k = pendingOf (ringAt v k .size) (v .inFlight k) (distance (reqProd (pageOf rings k)) (v .consumed k))
+pendingAt v rings k = pendingOf (ringAt v k .size) (v .inFlight k) (distance (reqProd (pagesAt v rings k)) (v .consumed k))
 
 -- port k has something to serve (rule 4.13); a broken one never has (rule 5.13)
 unfoldable pub hasWork : View → List ℕ → ℕ → Bool
@@ -52,15 +56,15 @@ passedOver v rings = least ports (λ i. hasWork v rings (lookedAt v i))
 -- ---- idle
 
 -- the rings with port k's req_event set, where the port is open (rule 5.8)
-abbrev pub armedPort : State → List ℕ → ℕ → ℕ → List ℕ
-armedPort State.Closed rings k consumed = rings
-armedPort State.Open rings k consumed = setPage rings k (setReqEvent (pageOf rings k) (after consumed))
-armedPort State.Broken rings k consumed = rings
+abbrev pub armedPort : Ring → State → List ℕ → ℕ → ℕ → List ℕ
+armedPort g State.Closed rings k consumed = rings
+armedPort g State.Open rings k consumed = setPages g rings k (setReqEvent (pagesOf g rings k) (after consumed))
+armedPort g State.Broken rings k consumed = rings
 
 -- and that of each of the first n ports
 unfoldable pub armed : View → List ℕ → ℕ → List ℕ
 armed v rings zero = rings
-armed v rings (suc k) = armedPort (v .state k) (armed v rings k) k (v .consumed k)
+armed v rings (suc k) = armedPort (ringAt v k) (v .state k) (armed v rings k) k (v .consumed k)
 
 -- an idle turn: no byte changes but those of req_event (rules 5.6, 5.8 and 5.9)
 unfoldable pub idle : View → List ℕ → TurnEffect
@@ -68,24 +72,24 @@ idle v rings = record { rings = armed v rings ports; words = noWords; answer = T
 
 -- ---- a response
 
--- A page after a response: it stands in the slot of rsp_prod_pvt, and rsp_prod follows that index of our own (rules 6.1, 6.2 and 6.4), never the page's
+-- A ring's pages after a response: it stands in the slot of rsp_prod_pvt, and rsp_prod follows that index of our own (rules 6.1, 6.2 and 6.4), never the page's
 -- (rule 10.2).
 unfoldable pub responded : Ring → List ℕ → ℕ → Pair → Status → List ℕ
 responded g page produced q s = setRspProd (setResponse (g .layout) page (slotAt g produced) q s) (after produced)
 
--- the rings after a response of port k: no other page changes (rule 6.6)
+-- the rings after a response of port k: no byte outside its pages changes (rules 1.20 and 6.6)
 unfoldable pub respondedAt : View → List ℕ → ℕ → Pair → Status → List ℕ
-respondedAt v rings k q s = setPage rings k (responded (ringAt v k) (pageOf rings k) (v .produced k) q s)
+respondedAt v rings k q s = setPages (ringAt v k) rings k (responded (ringAt v k) (pagesAt v rings k) (v .produced k) q s)
 
 -- whether the guest is to be told of the response (rule 6.5)
 unfoldable pub notifies : View → List ℕ → ℕ → Bool
-notifies v rings k = eqb (rspEvent (pageOf rings k)) (after (v .produced k))
+notifies v rings k = eqb (rspEvent (pagesAt v rings k)) (after (v .produced k))
 
 -- ---- serving
 
 -- the request that port k has next, in the slot of req_cons (rule 5.15)
 unfoldable pub requestAt : View → List ℕ → ℕ → Request
-requestAt v rings k = requestOf (ringAt v k .layout) (slotOf (ringAt v k) (pageOf rings k) (v .consumed k))
+requestAt v rings k = requestOf (ringAt v k .layout) (slotOf (ringAt v k) (pagesAt v rings k) (v .consumed k))
 
 -- What a turn makes of the request that it took. One that fails a check gets its response (rules 5.31 and 5.32); one that passes them starts, under the
 -- lowest free tag, with req_cons for its serial, and no page changes (rules 5.19 to 5.22 and 5.30).

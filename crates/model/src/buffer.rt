@@ -5,10 +5,12 @@ use crate::limit::PLAN_WORDS;
 // Ports of a backend, one guest disk each (rule 1.1).
 pub const PORTS: usize = 8;
 
-// Each port's share of the ring buffer, and the whole of it (rule 1.3).
-pub const RING_BYTES: usize = 4096;
+// A page. Each port's share of the ring buffer, which has room for two, and the whole of it (rule 1.3).
+pub const PAGE_BYTES: usize = 4096;
 
-pub const RINGS_BYTES: usize = PORTS * RING_BYTES;
+pub const RING_SHARE: usize = 2 * PAGE_BYTES;
+
+pub const RINGS_BYTES: usize = PORTS * RING_SHARE;
 
 // Each port's share of the grant buffer, a byte to a frame, and the whole of it (rule 1.4).
 pub const PORT_GRANTS: usize = FRAMES as usize;
@@ -26,7 +28,7 @@ pub const TURN_EXTENTS_END: usize = TURN_EXTENTS + PLAN_WORDS;
 pub const DONE_WORDS: usize = 4;
 
 // What a guest lends: its page, its own memory, a request, and words for the two answers (rules 16.1 and 16.16 to 16.19).
-pub const GUEST_PAGE_BYTES: usize = 4096;
+pub const GUEST_PAGE_BYTES: usize = PAGE_BYTES;
 
 pub const GUEST_WORDS: usize = 67;
 

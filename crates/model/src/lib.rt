@@ -24,6 +24,12 @@ pub enum Abi {
     Bits32,
 }
 
+// How many pages a guest's ring has (rule 2.3).
+pub enum Pages {
+    One,
+    Two,
+}
+
 // The disk's sector size, in bytes (rule 3.5).
 pub enum SectorSize {
     Bytes512,
@@ -42,6 +48,7 @@ pub struct Params {
     pub sector: SectorSize,
     pub sectors: u64,
     pub abi: Abi,
+    pub pages: Pages,
 }
 
 // What the decimal digits of a body spell (rules 3.7 and 3.8).

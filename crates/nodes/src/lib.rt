@@ -6,6 +6,7 @@ use contents::has_node;
 use contents::nodes_rise;
 use contents::well_formed;
 use model::Abi;
+use model::Pages;
 use model::Params;
 use model::SectorSize;
 use model::Sheet;
@@ -16,6 +17,7 @@ use model::node::FLUSH;
 use model::node::MODE;
 use model::node::PLACES;
 use model::node::PROTOCOL;
+use model::node::RING_PAGE_ORDER;
 use model::node::SECTOR_SIZE;
 use model::node::SECTORS;
 use model::refusal::SHEET_MISSING;
@@ -23,7 +25,7 @@ use model::refusal::SHEET_NODES;
 use model::refusal::SHEET_SHAPE;
 ghost use mathlib.Core.Path.{_≡_};
 ghost use lib.ListN.{getD};
-ghost use Rattle.model.specs.NodeSheet.{entriesOf, sectorSizeOf, abiFor, paramsOf, hasRequired, sheetOf};
+ghost use Rattle.model.specs.NodeSheet.{entriesOf, sectorSizeOf, abiFor, pagesFor, paramsOf, hasRequired, sheetOf};
 ghost use Rattle.contents.specs.Contents.{Contents};
 
 mod bodies;
@@ -54,7 +56,17 @@ fn abi_for(v: u64) -> Abi
     Abi::Bits64
 }
 
-// What the values of the nodes say of a port. The page order has one size.
+// The pages of a page order.
+fn pages_for(v: u64) -> Pages
+    ensures { λ r. ⌜ r ≡ pagesFor v ⌝ }
+{
+    if v == 1 {
+        return Pages::Two;
+    }
+    Pages::One
+}
+
+// What the values of the nodes say of a port.
 fn params_of(values: [u64; PLACES]) -> Params
     ensures { λ r. ⌜ r ≡ paramsOf (λ node. getD values node 0) ⌝ }
 {
@@ -67,6 +79,7 @@ fn params_of(values: [u64; PLACES]) -> Params
         sector: sector_size(values[SECTOR_SIZE]),
         sectors: values[SECTORS],
         abi: abi_for(values[PROTOCOL]),
+        pages: pages_for(values[RING_PAGE_ORDER]),
     }
 }
 

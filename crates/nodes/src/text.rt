@@ -58,7 +58,7 @@ fn is_sector_size(v: u64) -> bool
     v == 4096
 }
 
-// Whether a number may stand at a node: a sector size, any number of sectors, or page order 0.
+// Whether a number may stand at a node: a sector size, any number of sectors, or a page order of 0 or 1.
 fn is_allowed(node: usize, v: u64) -> bool
     ensures { λ r. ⌜ r ≡ isAllowed node v ⌝ }
 {
@@ -68,7 +68,7 @@ fn is_allowed(node: usize, v: u64) -> bool
     if node == SECTORS {
         return true;
     }
-    v == 0
+    v <= 1
 }
 
 // A number that the node allows.

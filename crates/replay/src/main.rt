@@ -2,21 +2,21 @@
 //
 // The input, from standard input, at most 65,536 bytes: a letter begins a line, and decimal numbers follow, at most 128, each behind a blank.
 //   # TEXT                        a comment, written out as it stands
-//   b PORT OFFSET BYTE ..         bytes into the port's page, from this offset on: what a guest writes
+//   b PORT OFFSET BYTE ..         bytes into the port's share of the rings, from this offset on: what a guest writes
 //   g PORT FRAME BYTE             the port's grant byte for this frame
 //   o PORT BYTE ..                open with this sheet
 //   c PORT                        close
 //   t                             turn
-//   T RINGS GRANTS                turn, with buffers lent of these lengths, at most 32768 and 8192
+//   T RINGS GRANTS                turn, with buffers lent of these lengths, at most 65536 and 8192
 //   f PORT TAG SERIAL RESULT      complete; the result from -2147483647 to 2147483647
-//   F RINGS PORT TAG SERIAL RESULT    complete, with a buffer lent of this length, at most 32768
+//   F RINGS PORT TAG SERIAL RESULT    complete, with a buffer lent of this length, at most 65536
 //   m PORT                        the port's counters
 //   z PORT                        the port's counters zeroed
 // In b, g, m and z the port is taken modulo 8.
 //
 // The output of a call is its name, then `refused NUMBER` or its answer: `done`, `idle`, `overrun`, `started` with the plan and, behind a bar each, the
 // extents' frame, first sector, length and disk sector; `answered` with reason and status; `notify` where the guest is to be notified. Then each ring
-// byte that the call changed, as PLACE:BYTE, its place in the 32,768. Each answer is handed over to the counters of the port that it names; they are written
+// byte that the call changed, as PLACE:BYTE, its place in the 65,536. Each answer is handed over to the counters of the port that it names; they are written
 // as `meter` with the numbers taken, okay, error and not supported.
 //
 // Only safety is proved here: that each answer is right is proved in `turn` and `backend`.
@@ -34,14 +34,14 @@ use model::TagId;
 use model::buffer::GRANTS_BYTES;
 use model::buffer::PORT_GRANTS;
 use model::buffer::PORTS;
-use model::buffer::RING_BYTES;
+use model::buffer::RING_SHARE;
 use model::buffer::RINGS_BYTES;
 use model::buffer::TURN_WORDS;
 
 // The buffers' numbers, as a line has them.
 const PORT_COUNT: u64 = PORTS as u64;
 
-const RING_PLACES: u64 = RING_BYTES as u64;
+const RING_PLACES: u64 = RING_SHARE as u64;
 
 const LENT_RINGS: u64 = RINGS_BYTES as u64;
 

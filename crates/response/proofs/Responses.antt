@@ -11,10 +11,10 @@ use Rattle.wire.specs.LittleEndian.{store}
 use Rattle.wire.specs.Part.{part}
 use Rattle.wire.proofs.LittleEndian.{store-add, getD-store-outside, load-agree}
 use Rattle.wire.proofs.Part.{getD-part}
-use Rattle.model.specs.Buffers.{pageShare}
 use Rattle.model.specs.Ring.{Ring, Layout, layoutOf, ringFor, rspProdAt, rspEventAt, rspEvent, setRspProd, slotAt, responseOperationAt, responseStatusAt, responsePaddingAt, statusNumber, statusBits, setResponse}
 use Rattle.model.specs.Turn.{responded}
 use Rattle.model.specs.declared.Abi.{Abi}
+use Rattle.model.specs.declared.Pages.{Pages}
 use Rattle.model.specs.declared.Pair.{Pair}
 use Rattle.model.specs.declared.Status.{Status}
 use Rattle.model.proofs.Ring.{Fits, fits-for, slotAt-header}
@@ -32,7 +32,7 @@ byte-zero b at v h =
 -- a response of any layout has room for its status
 pub room-abi : (a : Abi) → responsePaddingAt ≤ layoutOf a .responseSize
 unfolding ringFor
-room-abi a = fits-for a .statusRoom
+room-abi a = fits-for a Pages.One .statusRoom
 
 -- the bits of a status' number, as a callee takes it
 pub passed : (s : Status) → ofZ w16 (toZ w16 (ofZ w16 (statusNumber s))) ≡ statusBits s
@@ -68,7 +68,7 @@ part-agree m a b j e h =
     let r : i < m = omega (arith, simp (length-take, length-drop) at k) in
     getD-part m a j i r ∙ h i r ∙ sym (getD-part m b j i r))
 
-module _ (g : Ring) (f : Fits g) (page : List ℕ) (n : length page ≡ pageShare) (produced : ℕ) (q : Pair) (s : Status) where
+module _ (g : Ring) (f : Fits g) (page : List ℕ) (n : length page ≡ g .bytes) (produced : ℕ) (q : Pair) (s : Status) where
   -- a byte of neither the response nor rsp_prod stays
   pub responded-outside : (j : ℕ) → ((i : ℕ) → i < g .layout .responseSize → j ≡ slotAt g produced + i → ⊥) → ((i : ℕ) → i < 4 → j ≡ rspProdAt + i → ⊥)
       → getD (responded g page produced q s) j 0 ≡ getD page j 0

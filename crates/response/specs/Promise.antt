@@ -1,10 +1,10 @@
--- What the response writer promises: the whole page, or all the rings, after it, and when it asks to notify the guest.
+-- What the response writer promises: the ring's whole pages, or all the rings, after it, and when it asks to notify the guest.
 use mathlib.Core.Path.{_≡_}
 use mathlib.Core.Bool.{Bool}
 use mathlib.Core.List.{List}
 use Prim.Native.Nat.{ℕ}
 use lib.Dec.{eqb}
-use Rattle.model.specs.Buffers.{pageOf, setPage}
+use Rattle.model.specs.Buffers.{pagesOf, setPages}
 use Rattle.model.specs.Ring.{Ring, rspEvent, setRspProd}
 use Rattle.model.specs.Port.{after}
 use Rattle.model.specs.Turn.{responded}
@@ -21,7 +21,7 @@ pub record Responded (g : Ring) (before : List ℕ) (produced : ℕ) (q : Pair) 
   pub page : left ≡ responded g before produced q s
   pub notify : told ≡ eqb (rspEvent before) (after produced)
 
--- The same of port k's page, and no byte of another port's changes (rule 6.6).
+-- The same of port k's pages, and no other byte of the rings changes (rules 1.20 and 6.6).
 pub record RespondedIn (g : Ring) (before : List ℕ) (k produced : ℕ) (q : Pair) (s : Status) (left : List ℕ) (told : Bool) : Type 0 where
-  pub rings : left ≡ setPage before k (responded g (pageOf before k) produced q s)
-  pub notify : told ≡ eqb (rspEvent (pageOf before k)) (after produced)
+  pub rings : left ≡ setPages g before k (responded g (pagesOf g before k) produced q s)
+  pub notify : told ≡ eqb (rspEvent (pagesOf g before k)) (after produced)

@@ -1,4 +1,4 @@
-// A response written into a page, and published.
+// A response written into a ring's pages, and published.
 use crate::status::status_number;
 use layout::RESPONSE_OPERATION;
 use layout::RESPONSE_PADDING;
@@ -6,14 +6,14 @@ use layout::RESPONSE_STATUS;
 use layout::RSP_EVENT;
 use layout::RSP_PROD;
 use model::Abi;
+use model::Pages;
 use model::Pair;
 use model::Status;
 ghost use mathlib.Core.Path.{_≡_};
 ghost use Prim.Native.Nat.{_+_, _-_, _≤_};
 ghost use lib.ListN.{length};
 ghost use Rattle.wire.specs.LittleEndian.{store};
-ghost use Rattle.model.specs.Buffers.{pageShare};
-ghost use Rattle.model.specs.Ring.{layoutOf, ringFor, slotAt, setResponse, rspProdAt, responseOperationAt, responseStatusAt, responsePaddingAt};
+ghost use Rattle.model.specs.Ring.{headerSize, layoutOf, ringFor, slotAt, setResponse, rspProdAt, responseOperationAt, responseStatusAt, responsePaddingAt};
 ghost use Rattle.response.specs.Promise.{Published, Responded};
 
 // The operation of the response at `at`, and the zero behind it: a number of two bytes.
@@ -50,28 +50,28 @@ fn put_fields(page: &mut [u8], abi: Abi, at: usize, pair: Pair, s: Status)
 }
 
 // A response goes to the slot of index `produced`; the rest of the slot is not touched.
-fn put_in_slot(page: &mut [u8], abi: Abi, produced: u32, pair: Pair, status: Status)
-    requires { ⌜ length (now page) ≡ pageShare ⌝ }
-    ensures { λ _. ⌜ now (page .exit) ≡ setResponse (layoutOf abi) (now (page .entry)) (slotAt (ringFor abi) produced) pair status ⌝ }
+fn put_in_slot(page: &mut [u8], abi: Abi, pages: Pages, produced: u32, pair: Pair, status: Status)
+    requires { ⌜ length (now page) ≡ ringFor abi pages .bytes ⌝ }
+    ensures { λ _. ⌜ now (page .exit) ≡ setResponse (layoutOf abi) (now (page .entry)) (slotAt (ringFor abi pages) produced) pair status ⌝ }
 {
-    let at = ring::slot_at(abi, produced);
+    let at = ring::slot_at(abi, pages, produced);
     put_fields(page, abi, at, pair, status);
 }
 
 // The same, with an arm for each layout: there the compiler knows its numbers.
-fn put_response(page: &mut [u8], abi: Abi, produced: u32, pair: Pair, status: Status)
-    requires { ⌜ length (now page) ≡ pageShare ⌝ }
-    ensures { λ _. ⌜ now (page .exit) ≡ setResponse (layoutOf abi) (now (page .entry)) (slotAt (ringFor abi) produced) pair status ⌝ }
+fn put_response(page: &mut [u8], abi: Abi, pages: Pages, produced: u32, pair: Pair, status: Status)
+    requires { ⌜ length (now page) ≡ ringFor abi pages .bytes ⌝ }
+    ensures { λ _. ⌜ now (page .exit) ≡ setResponse (layoutOf abi) (now (page .entry)) (slotAt (ringFor abi pages) produced) pair status ⌝ }
 {
     match abi {
-        Abi::Bits64 => put_in_slot(page, Abi::Bits64, produced, pair, status),
-        Abi::Bits32 => put_in_slot(page, Abi::Bits32, produced, pair, status),
+        Abi::Bits64 => put_in_slot(page, Abi::Bits64, pages, produced, pair, status),
+        Abi::Bits32 => put_in_slot(page, Abi::Bits32, pages, produced, pair, status),
     }
 }
 
 // rsp_prod is our own number; what the page had there is never read.
 fn put_rsp_prod(page: &mut [u8], v: u32)
-    requires { ⌜ length (now page) ≡ pageShare ⌝ }
+    requires { ⌜ headerSize ≤ length (now page) ⌝ }
     ensures { λ _. ⌜ now (page .exit) ≡ store 4 (now (page .entry)) rspProdAt v ⌝ }
 {
     wire::put_u32(page, RSP_PROD, v);
@@ -79,7 +79,7 @@ fn put_rsp_prod(page: &mut [u8], v: u32)
 
 // rsp_prod goes up by one, and only then is rsp_event read, once, as in ring.h. That is the order of the source: no fence stands between.
 fn publish(page: &mut [u8], produced: u32) -> bool
-    requires { ⌜ length (now page) ≡ pageShare ⌝ }
+    requires { ⌜ headerSize ≤ length (now page) ⌝ }
     ensures { λ r. ⌜ Published (now (page .entry)) produced (now (page .exit)) r ⌝ }
 {
     let next = ring::next_index(produced);
@@ -89,10 +89,17 @@ fn publish(page: &mut [u8], produced: u32) -> bool
 
 // A response into the page: its bytes, then rsp_prod from our own index. The answer is whether to notify the guest.
 // Reads rsp_event, once.
-pub fn write_response(page: &mut [u8], abi: Abi, produced: u32, pair: Pair, status: Status) -> bool
-    requires { ⌜ length (now page) ≡ pageShare ⌝ }
-    ensures { λ r. ⌜ Responded (ringFor abi) (now (page .entry)) produced pair status (now (page .exit)) r ⌝ }
+pub fn write_response(
+    page: &mut [u8],
+    abi: Abi,
+    pages: Pages,
+    produced: u32,
+    pair: Pair,
+    status: Status,
+) -> bool
+    requires { ⌜ length (now page) ≡ ringFor abi pages .bytes ⌝ }
+    ensures { λ r. ⌜ Responded (ringFor abi pages) (now (page .entry)) produced pair status (now (page .exit)) r ⌝ }
 {
-    put_response(page, abi, produced, pair, status);
+    put_response(page, abi, pages, produced, pair, status);
     publish(page, produced)
 }

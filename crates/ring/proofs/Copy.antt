@@ -12,6 +12,7 @@ use Rattle.wire.proofs.Part.{length-part, getD-part}
 use Rattle.model.specs.Ring.{slotBytes, headSize, restSize, layoutOf, ringFor, requestOf}
 use Rattle.layout.specs.Copy.{requestIn}
 use Rattle.model.specs.declared.Abi.{Abi}
+use Rattle.model.specs.declared.Pages.{Pages}
 use Rattle.model.proofs.Ring.{fits-for, request-same}
 use Rattle.ring.specs.Copy.{Copied, CopyOf}
 
@@ -47,7 +48,7 @@ module _ (a : Abi) (rings first copy : List ℕ) (at : ℕ) (room : at + layoutO
 
   end : layoutOf a .slotSize ≡ layoutOf a .idAt + restSize
   unfolding ringFor
-  end = fits-for a .slotEnd
+  end = fits-for a Pages.One .slotEnd
 
   head-same : (i : ℕ) → i < headSize → getD copy i 0 ≡ getD slot i 0
   head-same i k =
@@ -72,4 +73,4 @@ module _ (a : Abi) (rings first copy : List ℕ) (at : ℕ) (room : at + layoutO
 -- a copy has the request of its slot
 pub request-copied : (a : Abi) (slot copy : List ℕ) → CopyOf (layoutOf a) slot copy → requestIn copy ≡ requestOf (layoutOf a) slot
 unfolding ringFor
-request-copied a slot copy c = request-same (ringFor Abi.Bits64) (ringFor a) (fits-for Abi.Bits64) (fits-for a) copy slot (c .head) (c .rest)
+request-copied a slot copy c = request-same (ringFor Abi.Bits64 Pages.One) (ringFor a Pages.One) (fits-for Abi.Bits64 Pages.One) (fits-for a Pages.One) copy slot (c .head) (c .rest)

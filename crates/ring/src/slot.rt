@@ -8,6 +8,7 @@ use layout::id_at;
 use layout::ring_size;
 use layout::slot_size;
 use model::Abi;
+use model::Pages;
 ghost use mathlib.Core.Path.{_≡_};
 ghost use Prim.Native.Nat.{_+_, _≤_};
 ghost use lib.ListN.{length};
@@ -15,11 +16,11 @@ ghost use Rattle.wire.specs.Part.{part};
 ghost use Rattle.model.specs.Ring.{layoutOf, ringFor, slotAt};
 ghost use Rattle.ring.specs.Copy.{Copied, CopyOf};
 
-// Where the slot of an index starts in its page.
-pub fn slot_at(abi: Abi, index: u32) -> usize
-    ensures { λ r. ⌜ r ≡ slotAt (ringFor abi) index ⌝ }
+// Where the slot of an index starts in its ring.
+pub fn slot_at(abi: Abi, pages: Pages, index: u32) -> usize
+    ensures { λ r. ⌜ r ≡ slotAt (ringFor abi pages) index ⌝ }
 {
-    HEADER_BYTES + slot_size(abi) * (index % ring_size(abi)) as usize
+    HEADER_BYTES + slot_size(abi) * (index % ring_size(pages)) as usize
 }
 
 // Copies n bytes of a source, from `from` on, to place `to` of a copy. Each is read once, since another domain may write it in the meantime.

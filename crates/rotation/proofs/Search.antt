@@ -9,10 +9,10 @@ use lib.Dec.{eqb, ltb}
 use borrow.Author.Tests.{eq-eqb, ne-eqb, lt-ltb, ltb-true, le-ltb}
 use Rattle.model.specs.Backend.{Backend, viewOf}
 use Rattle.model.specs.Base.{least}
-use Rattle.model.specs.Buffers.{ports, pageOf}
+use Rattle.model.specs.Buffers.{ports}
 use Rattle.model.specs.Port.{View, isOpen, distance}
 use Rattle.model.specs.Ring.{reqProd}
-use Rattle.model.specs.Turn.{pendingAt, hasWork, lookedAt, passedOver}
+use Rattle.model.specs.Turn.{pagesAt, pendingAt, hasWork, lookedAt, passedOver}
 use Rattle.model.proofs.Base.{least-is, least-found, clash}
 use Rattle.model.proofs.Fairness.{work-is}
 use Rattle.rotation.specs.Pick.{lookOf, pickAt, picked}
@@ -31,7 +31,7 @@ unfolding distance
 distance-some q c h l d e = d (omega arith)
 
 module _ (b : Backend) (rings : List ℕ) (k : ℕ) where
-  work : hasWork (viewOf b) rings k ≡ (isOpen (b .port k .state) && not (eqb (distance (reqProd (pageOf rings k)) (b .port k .consumed)) 0))
+  work : hasWork (viewOf b) rings k ≡ (isOpen (b .port k .state) && not (eqb (distance (reqProd (pagesAt (viewOf b) rings k)) (b .port k .consumed)) 0))
   unfolding hasWork pendingAt viewOf
   work = rw work-is
 
@@ -39,13 +39,13 @@ module _ (b : Backend) (rings : List ℕ) (k : ℕ) where
   unfolding lookOf
   look-shut o = rw (work, o)
 
-  module _ (o : isOpen (b .port k .state) ≡ true) (l : reqProd (pageOf rings k) < 2 ^ 32) where
-    pub look-same : reqProd (pageOf rings k) ≡ b .port k .consumed → Look.Nothing ≡ lookOf (viewOf b) rings k
+  module _ (o : isOpen (b .port k .state) ≡ true) (l : reqProd (pagesAt (viewOf b) rings k) < 2 ^ 32) where
+    pub look-same : reqProd (pagesAt (viewOf b) rings k) ≡ b .port k .consumed → Look.Nothing ≡ lookOf (viewOf b) rings k
     unfolding lookOf
     look-same e = rw (work, o, ← e, eq-eqb _ 0 (distance-zero _ l))
 
-    pub look-work : b .port k .consumed < 2 ^ 32 → (reqProd (pageOf rings k) ≡ b .port k .consumed → ⊥)
-        → Look.Work (reqProd (pageOf rings k)) ≡ lookOf (viewOf b) rings k
+    pub look-work : b .port k .consumed < 2 ^ 32 → (reqProd (pagesAt (viewOf b) rings k) ≡ b .port k .consumed → ⊥)
+        → Look.Work (reqProd (pagesAt (viewOf b) rings k)) ≡ lookOf (viewOf b) rings k
     unfolding lookOf
     look-work r d = rw (work, o, ne-eqb _ 0 (distance-some _ _ l r d))
 
@@ -146,7 +146,7 @@ module _ (v : View) (rings : List ℕ) where
     pub within : passedOver v rings < ports
     pub place : k ≡ lookedAt v (passedOver v rings)
     pub work : hasWork v rings k ≡ true
-    pub read : q ≡ reqProd (pageOf rings k)
+    pub read : q ≡ reqProd (pagesAt v rings k)
 
   pub pick-found : (k q : ℕ) → picked v rings ≡ Pick.Port k q → Found k q
   unfolding picked passedOver
@@ -155,7 +155,7 @@ module _ (v : View) (rings : List ℕ) where
       go : (b : Bool) → ltb (passedOver v rings) ports ≡ b → cond b (pickAt v rings (passedOver v rings)) Pick.Nobody ≡ Pick.Port k q → Found k q
       go true l e =
           let z : k ≡ lookedAt v (passedOver v rings) = cc in
-          let y : reqProd (pageOf rings (lookedAt v (passedOver v rings))) ≡ q = cc in
+          let y : reqProd (pagesAt v rings (lookedAt v (passedOver v rings))) ≡ q = cc in
           let w = ltb-true _ _ l in
           record { within = w; place = z; work = rw z (least-is ports (λ i. hasWork v rings (lookedAt v i)) w); read = rw z (sym y) }
       go false l e = let z : _≡_ {A = ℕ} 0 1 = cc in absurd (omega arith)

@@ -9,14 +9,14 @@ ghost use lib.ListN.{length};
 ghost use Rattle.model.specs.Backend.{viewOf};
 ghost use Rattle.model.specs.Buffers.{ports, ringsLength};
 ghost use Rattle.model.specs.Plan.{planWords};
-ghost use Rattle.model.specs.Turn.{armedPort, armed};
+ghost use Rattle.model.specs.Turn.{armedPort, armed, ringAt};
 ghost use Rattle.memory.specs.Backend.{backendOf};
 ghost use Rattle.rotation.specs.Idle.{Rested};
 
 // req_event of port k, where it is open. Reads no guest byte.
 fn arm_port(memory: &[u64; WORDS], rings: &mut [u8], k: usize)
     requires { ⌜ (k < ports) × (length (now rings) ≡ ringsLength) ⌝ }
-    ensures { λ _. ⌜ now (rings .exit) ≡ armedPort (viewOf (backendOf (now (memory .entry))) .state k) (now (rings .entry)) k (viewOf (backendOf (now (memory .entry))) .consumed k) ⌝ }
+    ensures { λ _. ⌜ now (rings .exit) ≡ armedPort (ringAt (viewOf (backendOf (now (memory .entry)))) k) (viewOf (backendOf (now (memory .entry))) .state k) (now (rings .entry)) k (viewOf (backendOf (now (memory .entry))) .consumed k) ⌝ }
 {
     let p = memory::port_at(memory, k);
     let state = p.state;

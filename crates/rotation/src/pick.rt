@@ -22,7 +22,7 @@ pub enum Pick {
     Nobody,
 }
 
-// Looks at port k. Reads bytes 0 to 3 of its page, once, where it is open.
+// Looks at port k. Reads bytes 0 to 3 of its ring, once, where it is open.
 fn look_at(memory: &[u64; WORDS], rings: &[u8], k: usize) -> Look
     requires { ⌜ (k < ports) × (length (now rings) ≡ ringsLength) ⌝ }
     ensures { λ r. ⌜ r ≡ lookOf (viewOf (backendOf (now (memory .entry)))) (now (rings .entry)) k ⌝ }
@@ -43,7 +43,7 @@ fn look_at(memory: &[u64; WORDS], rings: &[u8], k: usize) -> Look
 }
 
 // Goes through the ports from the pointer on (rule 5.2), and stops at the first that has something to serve (rule 5.3), or where it began. Reads bytes 0 to 3
-// of the page of each open port that it comes to, once each.
+// of the ring of each open port that it comes to, once each.
 pub fn pick_port(memory: &[u64; WORDS], rings: &[u8]) -> Pick
     requires { ⌜ length (now rings) ≡ ringsLength ⌝ }
     ensures { λ r. ⌜ r ≡ picked (viewOf (backendOf (now (memory .entry)))) (now (rings .entry)) ⌝ }

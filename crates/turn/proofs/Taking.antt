@@ -8,15 +8,16 @@ use borrow.Author.Tests.{eq-eqb, ne-eqb, le-leb, lt-leb}
 use Rattle.wire.specs.Part.{part}
 use Rattle.wire.proofs.Part.{part-part}
 use Rattle.model.specs.Backend.{Backend, viewOf, does}
-use Rattle.model.specs.Buffers.{ports, pageShare, pageOf, grantsOf}
+use Rattle.model.specs.Buffers.{ports, ringShare, pagesOf, grantsOf}
 use Rattle.model.specs.Plan.{verdictOf, noWords, wordsBeside}
 use Rattle.model.specs.Port.{isOpen, inFlightOf, distance, pendingOf}
 use Rattle.model.specs.Ring.{Request, reqProd, layoutOf, ringFor, ringOf, slotAt, slotOf, requestOf}
 use Rattle.layout.specs.Copy.{requestIn}
-use Rattle.model.specs.Turn.{pendingAt, hasWork, requestAt, settled, overran, servedBy}
+use Rattle.model.specs.Turn.{pagesAt, pendingAt, hasWork, requestAt, settled, overran, servedBy}
 use Rattle.model.proofs.Base.{clash}
 use Rattle.model.proofs.Ring.{fits-for, slotAt-room}
 use Rattle.model.specs.declared.Abi.{Abi}
+use Rattle.model.specs.declared.Pages.{Pages}
 use Rattle.model.specs.declared.Pair.{Pair}
 use Rattle.model.specs.declared.Pending.{Pending}
 use Rattle.model.specs.declared.Plan.{Plan}
@@ -30,34 +31,40 @@ use Rattle.model.proofs.View.{view-params, view-consumed}
 
 -- ---- the slot
 
-layout-of : (a : Abi) → ringFor a .layout ≡ layoutOf a
-unfolding ringFor
-layout-of a = refl
+module _ (a : Abi) (n : Pages) where
+  layout-of : ringFor a n .layout ≡ layoutOf a
+  unfolding ringFor
+  layout-of = refl
 
--- the copied slot lies in its page
-pub slot-within : (a : Abi) (i : ℕ) → slotAt (ringFor a) i + layoutOf a .slotSize ≤ pageShare
-unfolding ringFor
-slot-within a i = slotAt-room (ringFor a) (fits-for a) i
+  -- the copied slot lies in its port's pages,
+  slot-in-pages : (i : ℕ) → slotAt (ringFor a n) i + layoutOf a .slotSize ≤ ringFor a n .bytes
+  unfolding ringFor
+  slot-in-pages i = slotAt-room (ringFor a n) (fits-for a n) i
 
--- the bytes copied are the slot's
-copied : (a : Abi) (rings : List ℕ) (k i : ℕ) → part (layoutOf a .slotSize) rings (pageShare * k + slotAt (ringFor a) i) ≡ slotOf (ringFor a) (pageOf rings k) i
-unfolding slotOf pageOf ringFor
-copied a rings k i = sym (part-part (layoutOf a .slotSize) pageShare rings (pageShare * k) (slotAt (ringFor a) i) (slot-within a i))
+  -- and so in its share
+  pub slot-within : (i : ℕ) → slotAt (ringFor a n) i + layoutOf a .slotSize ≤ ringShare
+  slot-within i = omega (arith, slot-in-pages i, fits-for a n .within)
+
+  -- the bytes copied are the slot's
+  copied : (rings : List ℕ) (k i : ℕ)
+      → part (layoutOf a .slotSize) rings (ringShare * k + slotAt (ringFor a n) i) ≡ slotOf (ringFor a n) (pagesOf (ringFor a n) rings k) i
+  unfolding slotOf pagesOf ringFor
+  copied rings k i = sym (part-part (layoutOf a .slotSize) (ringFor a n .bytes) rings (ringShare * k) (slotAt (ringFor a n) i) (slot-in-pages i))
 
 -- the request in the slot of the rings that a port takes next, as the copy reads it
 abbrev pub lentRequest : List ℕ → ℕ → Port → Request
 lentRequest rings k p =
     let l = layoutOf (p .params .abi) in
-    requestOf l (part (l .slotSize) rings (pageShare * k + slotAt (ringOf (p .params)) (p .consumed)))
+    requestOf l (part (l .slotSize) rings (ringShare * k + slotAt (ringOf (p .params)) (p .consumed)))
 
 -- is the one that the rules judge
 module _ (b : Backend) (rings : List ℕ) (k : ℕ) (p : Port) (o : Reads b k p) where
-  view-request : requestAt (viewOf b) rings k ≡ requestOf (ringOf (b .port k .params) .layout) (slotOf (ringOf (b .port k .params)) (pageOf rings k) (b .port k .consumed))
+  view-request : requestAt (viewOf b) rings k ≡ (let g = ringOf (b .port k .params) in requestOf (g .layout) (slotOf g (pagesOf g rings k) (b .port k .consumed)))
   unfolding requestAt viewOf
   view-request = refl
 
   pub request-copied : lentRequest rings k p ≡ requestAt (viewOf b) rings k
-  request-copied = rw (copied (p .params .abi) rings k (p .consumed), view-request, ← o .read, layout-of (p .params .abi))
+  request-copied = rw (copied (p .params .abi) (p .params .pages) rings k (p .consumed), view-request, ← o .read, layout-of (p .params .abi) (p .params .pages))
 
   params-read : viewOf b .params k ≡ p .params
   params-read = view-params b k ∙ ap (λ (q : Port). q .params) (sym (o .read))
@@ -107,7 +114,7 @@ module _ (m rings grants : List ℕ) (k : ℕ) (p : Port) (o : Reads (backendOf 
 
 -- ---- serving, by what req_prod says
 
-module _ (b : Backend) (rings grants : List ℕ) (k published : ℕ) (h : k < ports) (e : published ≡ reqProd (pageOf rings k)) (w : hasWork (viewOf b) rings k ≡ true) where
+module _ (b : Backend) (rings grants : List ℕ) (k published : ℕ) (h : k < ports) (e : published ≡ reqProd (pagesAt (viewOf b) rings k)) (w : hasWork (viewOf b) rings k ≡ true) where
   abbrev far : ℕ
   far = distance published (b .port k .consumed)
 
@@ -133,7 +140,7 @@ module _ (b : Backend) (rings grants : List ℕ) (k published : ℕ) (h : k < po
   unfolding servedBy
   waits-served l = rw (← waits _ _ far some l ∙ pending-seen)
 
-pub overrun-served : (m rings grants : List ℕ) (k published : ℕ) (h : k < ports) (e : published ≡ reqProd (pageOf rings k))
+pub overrun-served : (m rings grants : List ℕ) (k published : ℕ) (h : k < ports) (e : published ≡ reqProd (pagesAt (viewOf (backendOf m)) rings k))
     (w : hasWork (viewOf (backendOf m)) rings k ≡ true) (pages words : List ℕ) (r : Turned) (left : List ℕ)
     → ringOf (backendOf m .port k .params) .size < distance published (backendOf m .port k .consumed) + inFlightOf (backendOf m .port k .busy)
     → pages ≡ rings → words ≡ noWords → Broke m k r left

@@ -2,17 +2,17 @@
 use mathlib.Core.Path.{_≡_}
 use mathlib.Core.Bool.{true}
 use mathlib.Core.List.{List}
-use Prim.Native.Nat.{ℕ, _<_}
+use Prim.Native.Nat.{ℕ, _+_, _*_, _<_}
 use lib.ListN.{length}
 use Rattle.model.specs.Backend.{Backend, viewOf, withPort, withTag, withPointer, brokenPort, startedPort, answeredPort, doesAll}
-use Rattle.model.specs.Buffers.{ports, ringsLength, grantsLength, pageOf, grantsOf}
+use Rattle.model.specs.Buffers.{ports, ringShare, ringsLength, grantsLength, grantsOf}
 use Rattle.model.specs.Calls.{TurnEffect}
 use Rattle.model.specs.Complete.{expectedOf}
 use Rattle.model.specs.Deeds.{turnDeeds, turnRound, portAfter, moved}
 use Rattle.model.specs.Plan.{verdictOf}
 use Rattle.model.specs.Port.{inFlightOf, lowestFree}
-use Rattle.model.specs.Ring.{ringOf, reqProd}
-use Rattle.model.specs.Turn.{portId, tagId, serialOf, hasWork, respondedAt, notifies, requestAt, settled}
+use Rattle.model.specs.Ring.{ringOf, slotAt, reqProd}
+use Rattle.model.specs.Turn.{pagesAt, portId, tagId, serialOf, hasWork, respondedAt, notifies, requestAt, settled}
 use Rattle.model.specs.declared.Pair.{Pair}
 use Rattle.model.specs.declared.Plan.{Plan}
 use Rattle.model.specs.declared.Port.{Port}
@@ -68,6 +68,10 @@ pub record Turns (m lent : List ℕ) (due : TurnEffect) (pages words : List ℕ)
   pub effect : _≡_ {A = TurnEffect} (record { rings = pages; words = words; answer = r }) due
   pub memory : Becomes m (withPointer (doesAll (backendOf m) (turnDeeds lent pages r)) (moved (turnRound lent r) (backendOf m .pointer))) left
 
+-- where in the rings the slot of port k's next request starts (rules 1.3, 2.4 and 5.15)
+abbrev pub nextSlot : Backend → ℕ → ℕ
+nextSlot b k = ringShare * k + slotAt (ringOf (b .port k .params)) (b .port k .consumed)
+
 -- a request taken from port k (rules 5.15 to 5.19)
 abbrev pub settledAt : Backend → List ℕ → List ℕ → ℕ → TurnEffect
 settledAt b rings grants k =
@@ -76,5 +80,5 @@ settledAt b rings grants k =
 -- port k has something to serve (rule 4.13), and this is its req_prod
 pub record ToServe (b : Backend) (rings : List ℕ) (k published : ℕ) : Type 0 where
   pub port : k < ports
-  pub read : published ≡ reqProd (pageOf rings k)
+  pub read : published ≡ reqProd (pagesAt (viewOf b) rings k)
   pub work : hasWork (viewOf b) rings k ≡ true

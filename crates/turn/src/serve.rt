@@ -13,7 +13,7 @@ use model::Turned;
 use model::Verdict;
 use model::buffer::PORT_GRANTS;
 use model::buffer::PORTS;
-use model::buffer::RING_BYTES;
+use model::buffer::RING_SHARE;
 use model::operation::DISCARD;
 use model::operation::FLUSH;
 ghost use mathlib.Core.Path.{_≡_};
@@ -26,7 +26,7 @@ ghost use Rattle.model.specs.Deeds.{portAfter};
 ghost use Rattle.model.specs.Plan.{planWords};
 ghost use Rattle.model.specs.Turn.{pendingAt, servedBy};
 ghost use Rattle.memory.specs.Backend.{backendOf, Becomes};
-ghost use Rattle.turn.specs.Serve.{Reads, Room, Broke, Began, Declined, Lent, Turns, settledAt, ToServe};
+ghost use Rattle.turn.specs.Serve.{Reads, Room, Broke, Began, Declined, Lent, Turns, nextSlot, settledAt, ToServe};
 
 // The pointer goes to the port after k.
 fn advance(memory: &mut [u64; WORDS], k: usize)
@@ -95,15 +95,26 @@ fn decline(
 {
     memory::set_consumed(memory, k, ring::next_index(p.consumed));
     let abi = memory::abi(memory, k);
+    let pages = memory::pages(memory, k);
     let produced = memory::produced(memory, k);
-    let notify = response::respond(rings, k, abi, produced, pair, status);
+    let notify = response::respond(rings, k, abi, pages, produced, pair, status);
     memory::set_produced(memory, k, ring::next_index(produced));
     advance(memory, k);
     Turned::Answered(PortId(k as u32), reason, status, notify)
 }
 
+// Where in the rings the slot of port k's next request starts. Reads no guest byte.
+fn next_slot(memory: &[u64; WORDS], k: usize) -> usize
+    requires { ⌜ k < ports ⌝ }
+    ensures { λ r. ⌜ r ≡ nextSlot (backendOf (now (memory .entry))) k ⌝ }
+{
+    let abi = memory::abi(memory, k);
+    let pages = memory::pages(memory, k);
+    RING_SHARE * k + ring::slot_at(abi, pages, memory::consumed(memory, k))
+}
+
 // Takes one request from port k and judges it. The bytes of its slot are read once, into a copy; all that follows looks at the copy.
-// Of the page it reads no more than that and what `decline` reads. But for req_cons and the layout, the port is read after the copy.
+// Of the pages it reads no more than that and what `decline` reads. But for req_cons and what the ring is, the port is read after the copy.
 fn take(
     memory: &mut [u64; WORDS],
     rings: &mut [u8],
@@ -114,10 +125,8 @@ fn take(
     requires { ⌜ Room (backendOf (now memory)) k (backendOf (now memory) .port k) × Lent (now rings) (now grants) × (length (now words) ≡ planWords) ⌝ }
     ensures { λ r. ⌜ Turns (now (memory .entry)) (now (rings .entry)) (settledAt (backendOf (now (memory .entry))) (now (rings .entry)) (now (grants .entry)) k) (now (rings .exit)) (now (words .exit)) r (now (memory .exit)) ⌝ }
 {
-    let consumed = memory::consumed(memory, k);
-    let abi = memory::abi(memory, k);
-    let at = RING_BYTES * k + ring::slot_at(abi, consumed);
-    let slot = ring::copy_slot(rings, at, abi);
+    let at = next_slot(memory, k);
+    let slot = ring::copy_slot(rings, at, memory::abi(memory, k));
     let p = memory::port_at(memory, k);
     let params = p.params;
     let from = PORT_GRANTS * k;
@@ -131,7 +140,7 @@ fn take(
 }
 
 // Serves port k, whose req_prod was read as `published`: an overrun breaks it, else its next request is taken.
-// Reads the page only as `take` does.
+// Reads the pages only as `take` does.
 pub fn serve(
     memory: &mut [u64; WORDS],
     rings: &mut [u8],
@@ -145,7 +154,7 @@ pub fn serve(
 {
     let d = ring::distance(published, memory::consumed(memory, k));
     let busy = memory::busy_marks(memory, k);
-    if marks::overruns(memory::abi(memory, k), busy, d) {
+    if marks::overruns(memory::pages(memory, k), busy, d) {
         extents::no_extents(words);
         return overrun(memory, k);
     }

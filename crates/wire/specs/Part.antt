@@ -1,4 +1,4 @@
--- Parts of a buffer: a port's page in the ring buffer, a slot in a page.
+-- Parts of a buffer: a port's ring in the ring buffer, a slot in a ring.
 use Prim.Native.Nat.{ℕ}
 use mathlib.Core.List.{List, _++_}
 use lib.ListN.{take, drop}

@@ -2,7 +2,7 @@
 
 use crate::programs::DONE;
 use crate::samples::{self, Timed};
-use kernelharp::layout::{write_u32, Abi, RING_BYTES, RSP_PROD, SLOTS};
+use kernelharp::layout::{write_u32, Abi, Pages, PAGE_BYTES, PAGE_SLOTS, RSP_PROD};
 use kernelharp::words::{
     collect, request, CollectWords, PutWords, RequestWords, COLLECT_WORDS, PUT_WORDS,
 };
@@ -50,9 +50,9 @@ pub struct Load {
 
 impl Load {
     const ALL: [Load; 3] = [
-        Load::new(11, SLOTS, Order::AsPut),
-        Load::new(1, SLOTS, Order::AsPut),
-        Load::new(11, SLOTS, Order::Reverse),
+        Load::new(11, PAGE_SLOTS, Order::AsPut),
+        Load::new(1, PAGE_SLOTS, Order::AsPut),
+        Load::new(11, PAGE_SLOTS, Order::Reverse),
     ];
 
     pub const fn new(segments: usize, outstanding: usize, order: Order) -> Load {
@@ -86,7 +86,7 @@ impl Load {
 
 /// A page begins where a real one does.
 #[repr(align(4096))]
-struct Page([u8; RING_BYTES]);
+struct Page([u8; PAGE_BYTES]);
 
 /// The two calls on a guest's memory.
 pub trait Calls {
@@ -126,7 +126,7 @@ impl<C: Calls> Ring<C> {
     pub fn new(load: Load) -> Ring<C> {
         Ring {
             calls: C::new(),
-            page: Box::new(Page([0; RING_BYTES])),
+            page: Box::new(Page([0; PAGE_BYTES])),
             requests: load.requests(),
             order: load.order,
             answered: 0,
@@ -162,7 +162,7 @@ impl<C: Calls> Ring<C> {
                 Order::AsPut => &self.requests[number],
                 Order::Reverse => &self.requests[all - 1 - number],
             };
-            let slot = &mut page[Abi::Bits64.slot_at(self.answered)..];
+            let slot = &mut page[Abi::Bits64.slot_at(Pages::One, self.answered)..];
             slot[..8].copy_from_slice(&words[request::ID].to_le_bytes());
             slot[8..16].copy_from_slice(&words[request::OPERATION].to_le_bytes());
             self.answered = self.answered.wrapping_add(1);

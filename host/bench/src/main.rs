@@ -10,9 +10,9 @@
 //! - `bench rounds archive DIGITS ROUNDS`: rounds of eight openings, likewise.
 //! - `bench rounds guest RING ROUNDS`: rounds of a ring filled and emptied by a guest, likewise.
 //!
-//! LOAD is SEGMENTS PORTS LAYOUT, where the layout of the guests is `64-bit`, `32-bit`, or `both` by
-//! turns; for rounds, SECTOR-SIZE LENGTH may follow: disks of that sector size, and segments of so
-//! many sectors. DIGITS is how many the number of sectors has. RING is SEGMENTS REQUESTS ORDER: so
+//! LOAD is SEGMENTS PORTS RINGS, where the rings of the guests are `64-bit`, `32-bit`, or `both` by
+//! turns, of one page each, or `64-bit-two-page` or `32-bit-two-page`; for rounds, SECTOR-SIZE LENGTH may
+//! follow: disks of that sector size, and segments of so many sectors. DIGITS is how many the number of sectors has. RING is SEGMENTS REQUESTS ORDER: so
 //! many requests are put in a row and answered `as-put` or in `reverse`. `tests/bench` runs all of
 //! it.
 
@@ -25,7 +25,7 @@ mod samples;
 mod stack;
 mod times;
 
-use load::{Layout, Load};
+use load::{Load, Rings};
 use programs::{Archive, Bench, Metered, Program, Second};
 
 fn main() {
@@ -40,20 +40,20 @@ fn main() {
         ["rounds", "guest", segments, requests, order, rounds] => {
             guest::run(ring(segments, requests, order), number(rounds))
         }
-        ["sample", segments, ports, layout] => times::sample(load(segments, ports, layout)),
+        ["sample", segments, ports, rings] => times::sample(load(segments, ports, rings)),
         ["numbers"] => numbers::print(),
         ["sample", digits] => numbers::sample(number(digits)),
         ["memory"] => stack::print(),
         ["rounds", "archive", digits, rounds] => numbers::run(number(digits), number(rounds)),
-        ["rounds", program, segments, ports, layout, rounds] => {
-            run_program(program, load(segments, ports, layout), number(rounds))
+        ["rounds", program, segments, ports, rings, rounds] => {
+            run_program(program, load(segments, ports, rings), number(rounds))
         }
-        ["rounds", program, segments, ports, layout, size, length, rounds] => {
-            let load = load(segments, ports, layout).on(number(size) as u32, number(length));
+        ["rounds", program, segments, ports, rings, size, length, rounds] => {
+            let load = load(segments, ports, rings).on(number(size) as u32, number(length));
             run_program(program, load, number(rounds))
         }
         _ => panic!(
-            "times, numbers, guest, memory, sample LOAD|DIGITS|guest RING, rounds archive|metered|second LOAD ROUNDS, rounds archive DIGITS ROUNDS, or rounds guest RING ROUNDS; LOAD is SEGMENTS PORTS LAYOUT, for rounds also with SECTOR-SIZE LENGTH, RING is SEGMENTS REQUESTS ORDER"
+            "times, numbers, guest, memory, sample LOAD|DIGITS|guest RING, rounds archive|metered|second LOAD ROUNDS, rounds archive DIGITS ROUNDS, or rounds guest RING ROUNDS; LOAD is SEGMENTS PORTS RINGS, for rounds also with SECTOR-SIZE LENGTH, RING is SEGMENTS REQUESTS ORDER"
         ),
     }
 }
@@ -62,9 +62,9 @@ fn number(text: &str) -> usize {
     text.parse().expect("a number")
 }
 
-fn load(segments: &str, ports: &str, layout: &str) -> Load {
-    let layout = Layout::of(layout).expect("64-bit, 32-bit or both");
-    Load::new(number(segments), number(ports), layout)
+fn load(segments: &str, ports: &str, rings: &str) -> Load {
+    let rings = Rings::of(rings).expect("64-bit, 32-bit, both, 64-bit-two-page or 32-bit-two-page");
+    Load::new(number(segments), number(ports), rings)
 }
 
 fn ring(segments: &str, requests: &str, order: &str) -> guest::Load {

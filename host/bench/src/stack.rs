@@ -2,7 +2,7 @@
 
 use crate::guest::{Calls, Load, Order, Ring};
 use generate::{run, Core};
-use kernelharp::layout::SLOTS;
+use kernelharp::layout::PAGE_SLOTS;
 use kernelharp::words::{
     CollectWords, DoneWords, PutWords, RequestWords, TurnWords, DONE_WORDS, REQUEST_WORDS,
     TURN_WORDS,
@@ -162,7 +162,7 @@ fn guest_depths() -> [usize; 2] {
     let mut deepest = [0; 2];
     for order in [Order::AsPut, Order::Reverse] {
         for segments in [1, 11] {
-            let mut ring = Ring::<PaintedGuest>::new(Load::new(segments, SLOTS, order));
+            let mut ring = Ring::<PaintedGuest>::new(Load::new(segments, PAGE_SLOTS, order));
             (0..ROUNDS).for_each(|_| ring.round());
             let depths = ring.calls().deepest;
             deepest = std::array::from_fn(|call| depths[call].max(deepest[call]));
@@ -217,6 +217,10 @@ impl Core for Painted {
 
     fn meter_completion(&self, meter: &mut Meter, returned: u32, answer: &DoneWords) {
         meter.completion(returned, answer);
+    }
+
+    fn skip(&mut self, port: usize, requests: u32) {
+        self.memory.skip(port, requests);
     }
 
     fn memory(&self) -> &[u64] {

@@ -33,7 +33,7 @@ pub fn sample(load: Load) {
 
 /// The table of all loads.
 pub fn print() {
-    println!("| segments | open ports | layout | archive: turn | completion | request | second program: turn | completion | request | ratio | lowest to highest |");
+    println!("| segments | open ports | rings | archive: turn | completion | request | second program: turn | completion | request | ratio | lowest to highest |");
     println!("|---|---|---|---|---|---|---|---|---|---|---|");
     samples::print_lines(LOADS.map(Load::words));
 }

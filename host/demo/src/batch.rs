@@ -1,12 +1,12 @@
 //! What a guest asks for in one round: requests, the bytes that go with them, and what is due back.
 
-use crate::link::{Frames, FRAME_SECTORS, NO_FRAME, READ_WRITE_FRAMES};
+use crate::link::{Frames, FRAME_SECTORS, NO_FRAME, READ_ONLY_FRAMES, READ_WRITE_FRAMES};
 use crate::pattern::{Model, SECTOR};
 use crate::profile::Profile;
 use crate::wish::{Wish, With};
 use generate::Random;
-use kernelharp::layout::{EXTENTS, SLOTS};
-use kernelharp::{Abi, Operation, Segment, Status};
+use kernelharp::layout::EXTENTS;
+use kernelharp::{Operation, Segment, Status};
 use std::ops::Range;
 
 pub const READ: u8 = Operation::Read as u8;
@@ -120,18 +120,16 @@ impl Batch<'_> {
     }
 
     pub fn is_full(&self) -> bool {
-        self.jobs.len() == SLOTS
+        self.jobs.len() == self.profile.slots()
     }
 
-    /// The frames of the next request: those granted for reading only, unless the host has to
-    /// write them.
+    /// The frames of the next request: as far as they go those granted for reading only, unless the
+    /// host has to write them.
     fn next_frames(&self, operation: u8) -> Range<u32> {
-        let granted = if operation == READ {
-            0
-        } else {
-            READ_WRITE_FRAMES
-        };
-        let first = granted + self.jobs.len() * EXTENTS;
+        let mut first = self.jobs.len() * EXTENTS;
+        if operation != READ && first < READ_ONLY_FRAMES {
+            first += READ_WRITE_FRAMES;
+        }
         first as u32..(first + EXTENTS) as u32
     }
 
@@ -218,9 +216,7 @@ impl Batch<'_> {
         let (whole, fault) = (segments.clone(), self.random.below(8));
         match fault {
             // The types of the guest's half have no such request.
-            0 if self.profile.sheet.abi == Abi::Bits32 => {
-                operation = self.random.pick(&[4, 6, 255])
-            }
+            0 if !self.profile.has_library_front() => operation = self.random.pick(&[4, 6, 255]),
             1 => segments = vec![segments[0]; self.random.pick(&[0, 12, 255])],
             2 => (segments[0].first, segments[0].last) = self.random.pick(&[(3, 2), (0, 8)]),
             3 => segments[0].frame = self.random.pick(&[NO_FRAME, 1024, u32::MAX]),

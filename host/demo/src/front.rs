@@ -1,10 +1,11 @@
-//! A guest's side of its ring: the library's guest's half for 64-bit guests, and for those of 32 bits,
-//! which it does not have, a front end in plain Rust.
+//! A guest's side of its ring: the library's guest's half for 64-bit guests with one page, and for those of
+//! 32 bits or with two pages, which it does not have, a front end in plain Rust.
 
+use crate::profile::Profile;
 use crate::wish::Wish;
-use frontend::{Frontend, GuestPage};
+use frontend::{Frontend, GuestRing};
 use kernelharp::live::LiveGuest;
-use kernelharp::{Abi, ArchiveMismatch, Refusal};
+use kernelharp::{ArchiveMismatch, Refusal};
 
 /// Either of the two.
 pub enum Front {
@@ -25,14 +26,15 @@ pub struct Response {
 }
 
 impl Front {
-    /// Begins on a page that no host looks at yet: the library's half fills it with zeros.
-    pub fn new(page: &'static GuestPage, abi: Abi) -> Result<Front, ArchiveMismatch> {
-        Ok(match abi {
-            Abi::Bits64 => Front::Library {
-                guest: LiveGuest::new(page.mapping())?,
-                notify: false,
-            },
-            Abi::Bits32 => Front::Plain(Frontend::new(page, abi)),
+    /// Begins on a ring that no host looks at yet: the library's half fills it with zeros.
+    pub fn new(ring: &'static GuestRing, profile: &Profile) -> Result<Front, ArchiveMismatch> {
+        let sheet = profile.sheet;
+        if !profile.has_library_front() {
+            return Ok(Front::Plain(Frontend::new(ring, sheet.abi, sheet.pages)));
+        }
+        Ok(Front::Library {
+            guest: LiveGuest::new(ring.mapping())?,
+            notify: false,
         })
     }
 

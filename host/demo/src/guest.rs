@@ -8,7 +8,6 @@ use crate::profile::{Profile, Role};
 use crate::report::Checks;
 use frontend::EventChannel;
 use generate::Random;
-use kernelharp::layout::SLOTS;
 use kernelharp::{Refusal, Status};
 use std::collections::HashMap;
 use std::sync::atomic::Ordering;
@@ -37,7 +36,7 @@ impl<'a> Guest<'a> {
         model: Model,
         mut random: Random,
     ) -> Result<Guest<'a>, String> {
-        let front = Front::new(link.page, profile.sheet.abi);
+        let front = Front::new(link.ring, profile);
         Ok(Guest {
             profile,
             link,
@@ -107,7 +106,8 @@ impl<'a> Guest<'a> {
         };
         make(&mut batch);
         let jobs = batch.jobs;
-        assert!(jobs.len() <= SLOTS, "a round is one ring at most");
+        let slots = self.profile.slots();
+        assert!(jobs.len() <= slots, "a round is one ring at most");
         let (mut lot, all, mut due) = (0, jobs.len(), HashMap::new());
         for (number, job) in jobs.into_iter().enumerate() {
             if self.put(&job)? {

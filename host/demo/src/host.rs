@@ -8,7 +8,7 @@ use frontend::EventChannel;
 use generate::Random;
 use kernelharp::layout::PORTS;
 use kernelharp::live::LiveBackend;
-use kernelharp::{Abi, Extent, Name, Operation, Plan, Port, Refusal, Sheet, Turn};
+use kernelharp::{Abi, Extent, Name, Operation, Pages, Plan, Port, Refusal, Sheet, Turn};
 
 /// Turns in a row before the host goes on with the I/O.
 const BURST: usize = 64;
@@ -85,8 +85,8 @@ impl<'a> Host<'a> {
     fn attend(&mut self, port: Port) -> Result<(), String> {
         let link = &self.links[port.index()];
         match link.state() {
-            State::Initialised(abi) => {
-                self.open(port, abi)?;
+            State::Initialised(abi, pages) => {
+                self.open(port, abi, pages)?;
                 link.go(State::Connected, &link.to_guest);
             }
             State::Connected if self.broken[port.index()] => {
@@ -102,14 +102,14 @@ impl<'a> Host<'a> {
         Ok(())
     }
 
-    /// The disk is the host's to describe, the layout the guest's.
-    fn open(&mut self, port: Port, abi: Abi) -> Result<(), String> {
+    /// The disk is the host's to describe, the ring the guest's.
+    fn open(&mut self, port: Port, abi: Abi, pages: Pages) -> Result<(), String> {
         let disk = self.profiles[port.index()].sheet;
-        let page = self.links[port.index()].page.shared(abi);
+        let ring = self.links[port.index()].ring.shared(abi, pages);
         *self.backend.grants_mut(port) = grants();
-        let sheet = Sheet { abi, ..disk };
-        let opened = self.backend.open(port, &sheet.bytes(), page);
-        opened.map_err(|refusal| format!("open of {port}: {refusal}"))
+        let sheet = Sheet { abi, pages, ..disk };
+        let opened = self.backend.open(port, &sheet.bytes(), ring);
+        opened.map_err(|fault| format!("open of {port}: {fault}"))
     }
 
     fn drain_and_close(&mut self, port: Port) -> Result<(), String> {

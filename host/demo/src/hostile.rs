@@ -1,15 +1,15 @@
 //! A guest that breaks the rules: rubbish in its slots, sectors of its disk in halves, requests
 //! rewritten while they are read, requests of another layout than it said, scribbled indices, req_prod
-//! moved back and at last far ahead. Then it connects again, in the other layout.
+//! moved back and at last far ahead. Then it connects again, with another ring.
 
 use crate::batch::{BARRIER, DISCARD, READ, WRITE};
-use crate::link::{Link, State, BOUND, FRAME_SECTORS, READ_WRITE_FRAMES};
+use crate::link::{Link, State, BOUND, FRAME_SECTORS, READ_ONLY_FRAMES, READ_WRITE_FRAMES};
 use crate::pattern::Model;
 use crate::report::Checks;
 use frontend::{EventChannel, Request};
 use generate::Random;
 use kernelharp::layout::{REQ_EVENT, REQ_PROD, RSP_EVENT, RSP_PROD};
-use kernelharp::{Abi, Segment};
+use kernelharp::{Abi, Pages, Segment};
 use std::sync::atomic::Ordering;
 use std::time::Duration;
 
@@ -26,17 +26,25 @@ pub struct Hostile<'a> {
     random: Random,
     /// The layout of its ring.
     abi: Abi,
+    /// How many pages the ring has.
+    pages: Pages,
     /// Requests published.
     req_prod: u32,
 }
 
 impl<'a> Hostile<'a> {
-    pub fn new(link: &'a Link, to_host: &'a EventChannel, abi: Abi, random: Random) -> Hostile<'a> {
+    pub fn new(
+        link: &'a Link,
+        to_host: &'a EventChannel,
+        (abi, pages): (Abi, Pages),
+        random: Random,
+    ) -> Hostile<'a> {
         Hostile {
             link,
             to_host,
             random,
             abi,
+            pages,
             req_prod: 0,
         }
     }
@@ -65,10 +73,22 @@ impl<'a> Hostile<'a> {
     }
 
     fn connect_again(&mut self) {
-        self.link.page.init();
+        self.link.ring.init();
         self.req_prod = 0;
+        // Both layouts with the one size, then both with the other.
+        if self.abi == Abi::Bits32 {
+            self.change_size();
+        }
         self.change_layout();
-        self.link.go(State::Initialised(self.abi), self.to_host);
+        let connected = State::Initialised(self.abi, self.pages);
+        self.link.go(connected, self.to_host);
+    }
+
+    fn change_size(&mut self) {
+        self.pages = match self.pages {
+            Pages::One => Pages::Two,
+            Pages::Two => Pages::One,
+        };
     }
 
     fn change_layout(&mut self) {
@@ -85,7 +105,7 @@ impl<'a> Hostile<'a> {
             30..55 => self.send(Self::damaged),
             55..60 => self.send(Self::halved),
             60..80 => self.rewrite_while_it_is_read(),
-            80..85 => self.mistake_the_layout(),
+            80..85 => self.mistake_the_ring(),
             85..95 => self.scribble(),
             95..97 => self.take_back(),
             _ => self.to_host.notify(),
@@ -97,34 +117,39 @@ impl<'a> Hostile<'a> {
     fn send(&mut self, make: impl Fn(&mut Self) -> Vec<u8>) {
         for _ in 0..1 + self.random.index(8) {
             let slot = make(self);
-            let at = self.abi.slot_at(self.req_prod);
-            self.link.page.write(at, &slot);
+            let at = self.slot_at(self.req_prod);
+            self.link.ring.write(at, &slot);
             self.req_prod = self.req_prod.wrapping_add(1);
         }
         self.publish(self.req_prod);
     }
 
+    fn slot_at(&self, index: u32) -> usize {
+        self.abi.slot_at(self.pages, index)
+    }
+
     /// Requests that change after they were published, and so perhaps after they were checked.
     fn rewrite_while_it_is_read(&mut self) {
-        let at = self.abi.slot_at(self.req_prod);
+        let at = self.slot_at(self.req_prod);
         self.send(Self::sound);
         for _ in 0..64 {
             let slot = self.damaged();
-            self.link.page.write(at, &slot);
+            self.link.ring.write(at, &slot);
         }
     }
 
-    /// Requests as and where a guest of the other layout has them.
-    fn mistake_the_layout(&mut self) {
-        self.change_layout();
+    /// Requests as and where a guest of the other layout has them, or one of the other size.
+    fn mistake_the_ring(&mut self) {
+        let change = self.random.pick(&[Self::change_layout, Self::change_size]);
+        change(self);
         self.send(Self::sound);
-        self.change_layout();
+        change(self);
     }
 
     /// Writes over words that are the host's.
     fn scribble(&mut self) {
-        for at in [REQ_EVENT, RSP_PROD, RSP_EVENT, 16, 60, 4092] {
-            self.link.page.store(at, self.random.word() as u32);
+        for at in [REQ_EVENT, RSP_PROD, RSP_EVENT, 16, 60, 4092, 4096, 8188] {
+            self.link.ring.store(at, self.random.word() as u32);
         }
         self.send(Self::sound);
     }
@@ -175,13 +200,13 @@ impl<'a> Hostile<'a> {
             let (secure, count) = (self.random.chance(50), whole * (1 + self.random.below(5)));
             return Request::discard(id, secure, start, count);
         }
-        let granted = if operation == READ {
-            0
+        let frame = if operation == READ {
+            self.random.index(READ_WRITE_FRAMES)
         } else {
-            READ_WRITE_FRAMES
+            READ_WRITE_FRAMES + self.random.index(READ_ONLY_FRAMES)
         };
         let segment = Segment {
-            frame: (granted + self.random.index(READ_WRITE_FRAMES)) as u32,
+            frame: frame as u32,
             first: 0,
             last: 7,
         };
@@ -191,7 +216,7 @@ impl<'a> Hostile<'a> {
 
     fn publish(&mut self, req_prod: u32) {
         std::sync::atomic::fence(Ordering::Release);
-        self.link.page.store(REQ_PROD, req_prod);
+        self.link.ring.store(REQ_PROD, req_prod);
         self.to_host.notify();
     }
 
@@ -199,7 +224,7 @@ impl<'a> Hostile<'a> {
     /// awaited, the next requests may be an overrun.
     fn settle(&mut self) {
         for _ in 0..PATIENCE {
-            let answered = self.link.page.load(RSP_PROD) == self.req_prod;
+            let answered = self.link.ring.load(RSP_PROD) == self.req_prod;
             if answered || self.link.state() == State::Closed {
                 return;
             }

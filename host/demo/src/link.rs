@@ -1,10 +1,10 @@
-//! What a guest and the host share: the ring page, the granted frames, the bells, and the state of
-//! their connection.
+//! What a guest and the host share: the ring, the granted frames, the bells, and the state of their
+//! connection.
 
 use crate::pattern::SECTOR;
-use frontend::{EventChannel, GuestPage};
-use kernelharp::layout::{EXTENTS, PORT_GRANTS, SLOTS};
-use kernelharp::Abi;
+use frontend::{EventChannel, GuestRing};
+use kernelharp::layout::{EXTENTS, PORT_GRANTS, TAGS};
+use kernelharp::{Abi, Pages};
 use std::sync::atomic::{AtomicU64, Ordering};
 use std::sync::{Mutex, PoisonError};
 use std::time::Duration;
@@ -12,10 +12,11 @@ use std::time::Duration;
 /// Nobody sleeps as long unless a wake-up is lost, a slow medium included.
 pub const BOUND: Duration = Duration::from_secs(60);
 
-/// Frames that the host may read and write, eleven to a slot of the ring. They are followed by as
-/// many that it may only read.
-pub const READ_WRITE_FRAMES: usize = SLOTS * EXTENTS;
-const FRAMES: usize = 2 * READ_WRITE_FRAMES;
+/// Frames that the host may read and write, eleven to a slot of the largest ring.
+pub const READ_WRITE_FRAMES: usize = TAGS * EXTENTS;
+/// Frames behind them that it may only read, eleven to a slot as far as there are grants.
+pub const READ_ONLY_FRAMES: usize = 28 * EXTENTS;
+const FRAMES: usize = READ_WRITE_FRAMES + READ_ONLY_FRAMES;
 /// A frame that is not granted.
 pub const NO_FRAME: u32 = FRAMES as u32;
 /// Sectors of a frame.
@@ -68,9 +69,9 @@ fn place(frame: u32, first: usize) -> usize {
 /// How far a connection is; a toolstack would carry this.
 #[derive(Clone, Copy, Debug, PartialEq, Eq)]
 pub enum State {
-    /// The guest has an unused ring of this layout for the host to open, and waits for responses on
-    /// it before it goes on to another state.
-    Initialised(Abi),
+    /// The guest has an unused ring of this layout and size for the host to open, and waits for
+    /// responses on it before it goes on to another state.
+    Initialised(Abi, Pages),
     /// The host has opened the port.
     Connected,
     /// The guest wants the port closed for good.
@@ -83,7 +84,7 @@ pub enum State {
 
 /// One guest's connection.
 pub struct Link {
-    pub page: &'static GuestPage,
+    pub ring: &'static GuestRing,
     pub frames: Frames,
     pub to_guest: EventChannel,
     /// Rounds that the guest has done, for the progress line.
@@ -92,13 +93,13 @@ pub struct Link {
 }
 
 impl Link {
-    pub fn new(abi: Abi) -> Link {
+    pub fn new(abi: Abi, pages: Pages) -> Link {
         Link {
-            page: GuestPage::new(),
+            ring: GuestRing::new(),
             frames: Frames::new(),
             to_guest: EventChannel::new(),
             rounds: AtomicU64::new(0),
-            state: Mutex::new(State::Initialised(abi)),
+            state: Mutex::new(State::Initialised(abi, pages)),
         }
     }
 

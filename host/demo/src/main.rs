@@ -35,12 +35,11 @@ fn main() -> ExitCode {
         "Eight guests on eight disk images, {rounds} rounds, seed {seed}. Two are game boards that"
     );
     println!("roll their day at different hours, beside saved scores that must stay untouched;");
-    println!(
-        "five guests put and collect by the library's guest's half, two have 32-bit rings and"
-    );
-    println!("a plain front end; one is hostile and comes back each time with a ring of the other");
-    println!("layout. Every id is to be answered once, every byte to be read back as it was");
-    println!("written, and every meter to count what its guest saw.");
+    println!("four guests put and collect by the library's guest's half; three, whose rings have");
+    println!("32-bit records, two pages or both, by a plain front end; one is hostile and comes");
+    println!("back each time with a ring of another layout or size. Every id is to be answered");
+    println!("once, every byte to be read back as it was written, and every meter to count what");
+    println!("its guest saw.");
     match demo(seed, rounds) {
         Ok(()) => ExitCode::SUCCESS,
         Err(fault) => {

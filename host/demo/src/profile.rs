@@ -1,7 +1,7 @@
 //! The eight guests: what each is and what disk it has.
 
 use kernelharp::layout::PORTS;
-use kernelharp::{Abi, Sheet};
+use kernelharp::{Abi, Pages, Sheet};
 use std::ops::Range;
 
 /// What a guest does with its disk.
@@ -63,6 +63,24 @@ impl Profile {
             Role::Board { .. } | Role::Plain => self.sheet.abi.to_string(),
         }
     }
+
+    /// How many pages its ring has, likewise.
+    pub fn pages(&self) -> String {
+        match self.role {
+            Role::Hostile => "both".to_string(),
+            Role::Board { .. } | Role::Plain => self.sheet.pages.count().to_string(),
+        }
+    }
+
+    /// The slots of its ring.
+    pub fn slots(&self) -> usize {
+        self.sheet.pages.slots() as usize
+    }
+
+    /// Whether the library's guest's half knows its ring: 64-bit records, one page.
+    pub fn has_library_front(&self) -> bool {
+        (self.sheet.abi, self.sheet.pages) == (Abi::Bits64, Pages::One)
+    }
 }
 
 /// A disk with every feature.
@@ -76,6 +94,7 @@ fn full(sector_size: u32, sectors: u64) -> Sheet {
         sector_size,
         sectors,
         abi: Abi::Bits64,
+        pages: Pages::One,
     }
 }
 
@@ -83,6 +102,14 @@ fn full(sector_size: u32, sectors: u64) -> Sheet {
 fn bits32(sheet: Sheet) -> Sheet {
     Sheet {
         abi: Abi::Bits32,
+        ..sheet
+    }
+}
+
+/// The same for a guest with a ring of two pages.
+fn two_pages(sheet: Sheet) -> Sheet {
+    Sheet {
+        pages: Pages::Two,
         ..sheet
     }
 }
@@ -113,10 +140,13 @@ pub fn profiles() -> [Profile; PORTS] {
         flush: false,
         ..full(4096, 2048)
     };
+    // Read at once, a board fills its ring.
+    let (first, second) = (full(512, 2816), two_pages(bits32(full(4096, 5632))));
+    let no_discard = two_pages(without_discard(full(1024, 2500)));
     let mut all = [
-        Profile::new("board, first zone", board(0), full(512, 2816)),
-        Profile::new("board, second zone", board(9), bits32(full(4096, 2816))),
-        Profile::new("no discard", Role::Plain, without_discard(full(1024, 2500))),
+        Profile::new("board, first zone", board(0), first),
+        Profile::new("board, second zone", board(9), second),
+        Profile::new("no discard", Role::Plain, no_discard),
         Profile::new("no secure discard", Role::Plain, bits32(no_secure)),
         Profile::new("medium can't discard", Role::Plain, full(4096, 4096)),
         Profile::new("read-only", Role::Plain, read_only),

@@ -176,11 +176,12 @@ impl Progress {
 pub fn print_table(profiles: &[Profile], counts: &Counts, checks: &[Checks]) {
     println!();
     println!(
-        "{:<5}{:<21}{:>7}{:>8}{:>9}{:>9}{:>8}{:>15}{:>11}{:>10}{:>13}{:>13}",
+        "{:<5}{:<21}{:>7}{:>8}{:>7}{:>9}{:>9}{:>8}{:>15}{:>11}{:>10}{:>13}{:>13}",
         "port",
         "guest",
         "disk",
         "layout",
+        "pages",
         "taken",
         "okay",
         "error",
@@ -194,12 +195,12 @@ pub fn print_table(profiles: &[Profile], counts: &Counts, checks: &[Checks]) {
     for (port, (profile, checks)) in profiles.iter().zip(checks).enumerate() {
         let mode = if profile.sheet.writable { "w" } else { "r" };
         let disk = format!("{mode} {}", profile.sheet.sector_size);
-        let (name, layout) = (profile.name, profile.layout());
-        let head = format!("{port:<5}{name:<21}{disk:>7}{layout:>8}");
+        let (name, layout, pages) = (profile.name, profile.layout(), profile.pages());
+        let head = format!("{port:<5}{name:<21}{disk:>7}{layout:>8}{pages:>7}");
         print_row(&head, &counts.ports[port], checks);
         sum.add(checks);
     }
-    print_row(&format!("{:<41}", "all"), &counts.total(), &sum);
+    print_row(&format!("{:<48}", "all"), &counts.total(), &sum);
     print_sums(counts, &sum);
 }
 

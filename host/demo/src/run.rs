@@ -49,7 +49,10 @@ fn play(
     seed: u64,
     rounds: u64,
 ) -> Result<(Counts, Vec<End>), String> {
-    let links: [Link; PORTS] = std::array::from_fn(|port| Link::new(profiles[port].sheet.abi));
+    let links: [Link; PORTS] = std::array::from_fn(|port| {
+        let sheet = profiles[port].sheet;
+        Link::new(sheet.abi, sheet.pages)
+    });
     let (bell, mut progress) = (EventChannel::new(), Progress::new(rounds));
     let random = |part: usize| Random::new(seed.wrapping_mul(16).wrapping_add(part as u64));
     let mut host = Host::new(profiles, &links, &bell, disks, random(PORTS))?;
@@ -93,7 +96,10 @@ impl<'a> Player<'a> {
         random: Random,
     ) -> Result<Player<'a>, String> {
         Ok(match profile.role {
-            Role::Hostile => Player::Hostile(Hostile::new(link, bell, profile.sheet.abi, random)),
+            Role::Hostile => {
+                let ring = (profile.sheet.abi, profile.sheet.pages);
+                Player::Hostile(Hostile::new(link, bell, ring, random))
+            }
             _ => Player::Sound(Guest::new(profile, link, bell, model, random)?),
         })
     }

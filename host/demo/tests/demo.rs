@@ -4,7 +4,7 @@ use std::fs;
 use std::path::PathBuf;
 use std::process::{Command, Output};
 
-/// The columns of a row behind the guest's name, disk and layout.
+/// The columns of a row behind the guest's name, disk, layout and pages.
 const FIGURES: usize = 8;
 
 /// Runs the demo with a temporary folder of its own, which must be empty again afterwards.
@@ -41,10 +41,11 @@ fn figures(text: &str, begin: &str) -> Vec<f64> {
     figures.iter().map(|word| word.parse().unwrap()).collect()
 }
 
-/// The layout of a guest's ring, the column before its figures.
-fn layout(text: &str, port: usize) -> &str {
+/// The layout and the pages of a guest's ring, the columns before its figures.
+fn ring(text: &str, port: usize) -> [&str; 2] {
     let mut words = line(text, &format!("{port}    ")).split_whitespace().rev();
-    words.nth(FIGURES).unwrap()
+    let pages = words.nth(FIGURES).unwrap();
+    [words.next().unwrap(), pages]
 }
 
 #[test]
@@ -65,9 +66,13 @@ fn the_demo_runs_small() {
     assert!(hostile[0] > 0.0, "requests of the hostile guest");
     assert_eq!(hostile[1] + hostile[2] + hostile[3], hostile[0]);
     assert_eq!(hostile[5], 6.0, "overruns of the hostile guest");
-    let layouts: [&str; 8] = std::array::from_fn(|port| layout(&text, port));
-    let due = "64-bit 32-bit 64-bit 32-bit 64-bit 64-bit 64-bit both";
-    assert_eq!(layouts.join(" "), due);
+    let rings: [[&str; 2]; 8] = std::array::from_fn(|port| ring(&text, port));
+    let layouts = "64-bit 32-bit 64-bit 32-bit 64-bit 64-bit 64-bit both";
+    assert_eq!(rings.map(|[layout, _]| layout).join(" "), layouts);
+    assert_eq!(
+        rings.map(|[_, pages]| pages).join(" "),
+        "1 2 2 1 1 1 1 both"
+    );
     let reasons = line(&text, "refused by reason:").replace(':', " ");
     let reasons: Vec<&str> = reasons.split_whitespace().skip(3).collect();
     for (number, pair) in (21..=29).zip(reasons.chunks(2)) {

@@ -1,16 +1,18 @@
-//! A guest's private indices over its page; ring.h's macro for each step is named.
+//! A guest's private indices over its ring; ring.h's macro for each step is named.
 
-use crate::{GuestPage, Request, Response};
-use kernelharp::layout::{REQ_EVENT, REQ_PROD, RSP_EVENT, RSP_PROD, SLOTS};
-use kernelharp::Abi;
+use crate::{GuestRing, Request, Response};
+use kernelharp::layout::{REQ_EVENT, REQ_PROD, RSP_EVENT, RSP_PROD};
+use kernelharp::{Abi, Pages};
 use std::sync::atomic::{fence, Ordering};
 
 /// A guest's side of a ring.
 #[derive(Debug)]
 pub struct Frontend {
-    page: &'static GuestPage,
+    ring: &'static GuestRing,
     /// How the guest lays out its requests.
     abi: Abi,
+    /// How many pages its ring has.
+    pages: Pages,
     /// Requests put.
     req_prod_pvt: u32,
     /// Requests published.
@@ -20,11 +22,12 @@ pub struct Frontend {
 }
 
 impl Frontend {
-    /// Begins on a page with an unused ring (FRONT_RING_INIT).
-    pub fn new(page: &'static GuestPage, abi: Abi) -> Frontend {
+    /// Begins on an unused ring (FRONT_RING_INIT).
+    pub fn new(ring: &'static GuestRing, abi: Abi, pages: Pages) -> Frontend {
         Frontend {
-            page,
+            ring,
             abi,
+            pages,
             req_prod_pvt: 0,
             published: 0,
             rsp_cons: 0,
@@ -33,14 +36,14 @@ impl Frontend {
 
     /// How many more requests there is room for (RING_FREE_REQUESTS).
     pub fn free(&self) -> u32 {
-        SLOTS as u32 - self.req_prod_pvt.wrapping_sub(self.rsp_cons)
+        self.pages.slots() - self.req_prod_pvt.wrapping_sub(self.rsp_cons)
     }
 
     /// Puts a request in the next slot, not yet published.
     pub fn put(&mut self, request: &Request) {
         assert!(self.free() > 0, "a full ring");
-        let at = self.abi.slot_at(self.req_prod_pvt);
-        self.page.write(at, &request.slot(self.abi));
+        let at = self.abi.slot_at(self.pages, self.req_prod_pvt);
+        self.ring.write(at, &request.slot(self.abi));
         self.req_prod_pvt = self.req_prod_pvt.wrapping_add(1);
     }
 
@@ -57,7 +60,7 @@ impl Frontend {
         let old = self.published;
         // The requests are there before the index that publishes them.
         fence(Ordering::Release);
-        self.page.store(REQ_PROD, self.req_prod_pvt);
+        self.ring.store(REQ_PROD, self.req_prod_pvt);
         self.published = self.req_prod_pvt;
         // The index is out before req_event is looked at.
         fence(Ordering::SeqCst);
@@ -67,12 +70,12 @@ impl Frontend {
     /// The second half: whether req_event lies among the requests published since `old`.
     pub fn backend_asked(&self, old: u32) -> bool {
         let new = self.published;
-        new.wrapping_sub(self.page.load(REQ_EVENT)) < new.wrapping_sub(old)
+        new.wrapping_sub(self.ring.load(REQ_EVENT)) < new.wrapping_sub(old)
     }
 
     /// Whether a response waits (RING_HAS_UNCONSUMED_RESPONSES).
     pub fn has_response(&self) -> bool {
-        self.page.load(RSP_PROD) != self.rsp_cons
+        self.ring.load(RSP_PROD) != self.rsp_cons
     }
 
     /// The next response, if one waits.
@@ -83,7 +86,8 @@ impl Frontend {
         // The response is read after the index that published it.
         fence(Ordering::Acquire);
         let mut bytes = vec![0; self.abi.response_bytes()];
-        self.page.read(self.abi.slot_at(self.rsp_cons), &mut bytes);
+        let at = self.abi.slot_at(self.pages, self.rsp_cons);
+        self.ring.read(at, &mut bytes);
         self.rsp_cons = self.rsp_cons.wrapping_add(1);
         Some(Response::from_bytes(&bytes))
     }
@@ -100,7 +104,7 @@ impl Frontend {
 
     /// Asks for an event with the next response.
     pub fn ask_for_event(&self) {
-        self.page.store(RSP_EVENT, self.rsp_cons.wrapping_add(1));
+        self.ring.store(RSP_EVENT, self.rsp_cons.wrapping_add(1));
         // The wish is out before rsp_prod is looked at again.
         fence(Ordering::SeqCst);
     }

@@ -5,17 +5,19 @@ mod classes;
 mod completions;
 mod discards;
 mod meters;
+mod rings;
 mod sheets;
 mod turns;
 
 use self::classes::expected_classes;
 pub(crate) use self::discards::{end_of, flag_of};
+use self::rings::{reopened_class, Standing};
 use self::sheets::{opened_classes, sheet_faults};
 use crate::tally::Tally;
-use crate::{Buffer, Write};
+use crate::{Buffer, Ring, Write};
 use history::{Event, History, State};
 use kernelharp::layout::{
-    page, read_u32, Abi, HEADER_BYTES, PORTS, REQ_EVENT, REQ_PROD, RING_BYTES, RSP_PROD, SLOTS,
+    read_u32, ring, Abi, HEADER_BYTES, PAGE_BYTES, PORTS, REQ_EVENT, REQ_PROD, RING_BYTES, RSP_PROD,
 };
 use second::{read_sheet, Disk, Refusal};
 use std::collections::HashSet;
@@ -27,9 +29,11 @@ pub struct Census {
     counts: Tally,
     /// Those that ports of either layout should show, by layout.
     port_counts: [Tally; Abi::ALL.len()],
+    /// Those that rings of either layout and size should show.
+    ring_counts: [Tally; Ring::ALL.len()],
     books: [PortBooks; PORTS],
-    /// The layout of the port that the last turn served.
-    last_served: Option<Abi>,
+    /// The ring of the port that the last turn served.
+    last_served: Option<Ring>,
 }
 
 /// What the history does not show at once: what was named earlier on a port.
@@ -37,7 +41,9 @@ pub struct Census {
 struct PortBooks {
     openings: u64,
     disk: Option<Disk>,
-    abi: Abi,
+    ring: Ring,
+    /// How many requests were passed over.
+    skipped: u32,
     /// Completed lately in this opening, and in the one before.
     completed: HashSet<(u32, u32)>,
     completed_before: HashSet<(u32, u32)>,
@@ -55,6 +61,9 @@ impl Census {
         for (abi, counts) in Abi::ALL.into_iter().zip(&self.port_counts) {
             all.add_named(counts, |class| class_of(abi, class));
         }
+        for (ring, counts) in Ring::ALL.into_iter().zip(&self.ring_counts) {
+            all.add_named(counts, |class| class_of(ring, class));
+        }
         all
     }
 
@@ -67,6 +76,9 @@ impl Census {
     pub fn add(&mut self, other: &Census) {
         self.counts.add(&other.counts);
         for (counts, others) in self.port_counts.iter_mut().zip(&other.port_counts) {
+            counts.add(others);
+        }
+        for (counts, others) in self.ring_counts.iter_mut().zip(&other.ring_counts) {
             counts.add(others);
         }
     }
@@ -86,6 +98,29 @@ impl Census {
 
     fn tick_of_if(&mut self, abi: Abi, occurred: bool, class: &str) {
         self.port_counts[abi as usize].tick_if(occurred, class);
+    }
+
+    /// Counts a class that rings of either layout and size should show.
+    fn tick_ring(&mut self, ring: Ring, class: &str) {
+        self.ring_counts[ring.number()].tick(class);
+    }
+
+    fn tick_ring_if(&mut self, ring: Ring, occurred: bool, class: &str) {
+        self.ring_counts[ring.number()].tick_if(occurred, class);
+    }
+
+    /// How a port stands before a call that serves its next request, or gives its next response.
+    fn standing(&self, history: &History, port: usize) -> Standing {
+        let PortBooks { ring, skipped, .. } = self.books[port];
+        let index = history.taken(port) as u32;
+        Standing {
+            ring,
+            index,
+            passed: index.wrapping_sub(skipped),
+            ahead: 0,
+            in_flight: history.unfinished(port),
+            tag: None,
+        }
     }
 
     /// Counts an entry, with the history as it stood before it. A call refused or done against the
@@ -127,6 +162,14 @@ impl Census {
                 }
             }
             Event::Zeroed { port } => self.note_zeroing(history, port),
+            Event::Skipped { port, requests } => {
+                self.books[port].skipped = requests;
+                let ahead = Standing {
+                    index: requests,
+                    ..self.standing(history, port)
+                };
+                self.note_skipped(&ahead);
+            }
         }
     }
 
@@ -138,29 +181,32 @@ impl Census {
             self.tick_if(at == REQ_EVENT, "guest wrote req_event");
             self.tick_if(at == RSP_PROD, "guest wrote rsp_prod");
             if at >= HEADER_BYTES && history.state(port) == State::Open {
-                self.note_slot_write(history, port, page(rings, port), at);
+                self.note_slot_write(history, port, ring(rings, port), at);
             }
         }
     }
 
     /// Counts what a guest writes at a byte behind the header.
-    fn note_slot_write(&mut self, history: &History, port: usize, page: &[u8], at: usize) {
-        let abi = self.books[port].abi;
+    fn note_slot_write(&mut self, history: &History, port: usize, share: &[u8], at: usize) {
+        let ring = self.books[port].ring;
+        if at >= ring.pages.bytes() {
+            self.tick_ring(ring, "guest wrote in the second half");
+        }
         let begins = |abi: Abi| (at - HEADER_BYTES) % abi.slot_bytes() == 0;
-        let astray = !begins(abi) && Abi::ALL.into_iter().any(begins);
-        self.tick_of_if(abi, astray, "guest wrote at a slot of the other layout");
-        let slot = ((at - HEADER_BYTES) / abi.slot_bytes()) as u32;
-        if slot >= SLOTS as u32 {
-            return self.tick_of(abi, "guest wrote behind the last slot");
+        let astray = !begins(ring.abi) && Abi::ALL.into_iter().any(begins);
+        self.tick_ring_if(ring, astray, "guest wrote at a slot of another ring");
+        let slot = ((at - HEADER_BYTES) / ring.abi.slot_bytes()) as u32;
+        if slot >= ring.slots() {
+            return self.tick_ring(ring, "guest wrote behind the last slot");
         }
         let taken = history.taken(port) as u32;
-        let slots_after = |index: u32| slot.wrapping_sub(index) % SLOTS as u32;
+        let slots_after = |index: u32| slot.wrapping_sub(index) % ring.slots();
         let in_flight = history.unfinished(port);
         let over = slots_after(taken.wrapping_sub(in_flight)) < in_flight;
-        self.tick_of_if(abi, over, "guest wrote over a slot in flight");
-        let waiting = read_u32(page, REQ_PROD).wrapping_sub(taken);
-        let over = slots_after(taken) < waiting && waiting <= SLOTS as u32 - in_flight;
-        self.tick_of_if(abi, over, "guest wrote over a waiting request");
+        self.tick_ring_if(ring, over, "guest wrote over a slot in flight");
+        let waiting = read_u32(share, REQ_PROD).wrapping_sub(taken);
+        let over = slots_after(taken) < waiting && waiting <= ring.slots() - in_flight;
+        self.tick_ring_if(ring, over, "guest wrote over a waiting request");
     }
 
     fn note_open(&mut self, history: &History, port: u32, sheet: &[u8], code: u32) {
@@ -182,14 +228,15 @@ impl Census {
             self.tick_if(disk.sectors == u64::MAX, "open done, 2^64 - 1 sectors");
         }
         let books = &mut self.books[port as usize];
-        let abi = Abi::of_sheet(sheet);
-        let before = std::mem::replace(&mut books.abi, abi);
+        let ring = Ring::of_sheet(sheet);
+        let before = std::mem::replace(&mut books.ring, ring);
         books.disk = read_sheet(sheet).ok();
+        books.skipped = 0;
         books.openings += 1;
         books.completed_before = std::mem::take(&mut books.completed);
-        if books.openings > 1 {
-            self.tick_of(abi, &reopened_class(before));
-        }
+        let again = books.openings > 1;
+        self.tick_ring(ring, "open done");
+        self.tick_ring_if(ring, again, &reopened_class(before));
     }
 
     fn note_refused_open(&mut self, history: &History, port: u32, sheet: &[u8], code: u32) {
@@ -226,19 +273,9 @@ impl fmt::Display for Census {
     }
 }
 
-/// A class of a port of one layout.
-fn class_of(abi: Abi, class: &str) -> String {
-    format!("{abi}: {class}")
-}
-
-/// The class of a port whose opening before had this layout.
-fn reopened_class(before: Abi) -> String {
-    format!("open done, reopened, {before} before")
-}
-
-/// The class of a turn that serves a port right after one that served a port of this layout.
-fn served_after_class(before: Abi) -> String {
-    format!("served right after a {before} port")
+/// A class of a port of one kind.
+fn class_of(kind: impl fmt::Display, class: &str) -> String {
+    format!("{kind}: {class}")
 }
 
 /// A word of an answer that is 0 or 1.
@@ -249,6 +286,9 @@ pub(crate) fn yes_or_no(word: u64) -> &'static str {
         "no"
     }
 }
+
+/// What all rings have where each has one page and no more.
+const ONE_PAGE_RINGS: usize = PORTS * PAGE_BYTES;
 
 /// How a length can differ from the due one.
 pub(crate) const LENGTHS: [&str; 3] = ["empty", "short", "long"];

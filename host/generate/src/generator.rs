@@ -3,15 +3,15 @@
 mod calls;
 mod guests;
 
-use crate::{Call, Outcome, Random, Step, World};
+use crate::{Call, Outcome, Random, Ring, Step, World};
 use history::State;
-use kernelharp::layout::{Abi, PORTS, SLOTS};
+use kernelharp::layout::PORTS;
 use kernelharp::words::{kind, turn, TurnWords};
 use kernelharp::Completion;
 use second::{read_sheet, Disk, Operation};
 use std::collections::VecDeque;
 
-/// How a guest treats its page.
+/// How a guest treats its ring.
 #[derive(Clone, Copy, Debug, PartialEq, Eq)]
 enum Manner {
     /// Keeps the ring's rules; a few of its requests are at fault.
@@ -36,16 +36,16 @@ struct Guest {
     manner: Manner,
     state: State,
     disk: Option<Disk>,
-    /// The layout of its last opening.
-    abi: Abi,
+    /// The ring of its last opening.
+    ring: Ring,
     /// The guest's own req_prod.
     produced: u32,
-    /// Requests taken, as the host counts them.
+    /// Requests taken, as the host counts them, those passed over too.
     taken: u32,
     begun: Vec<Begun>,
     /// Completed lately, of this or an earlier opening.
     finished: VecDeque<(u32, u32)>,
-    /// Just opened: the guest has yet to set up its page.
+    /// Just opened: the guest has yet to set up its ring.
     fresh: bool,
 }
 
@@ -55,7 +55,7 @@ impl Guest {
             manner,
             state: State::Closed,
             disk: None,
-            abi: Abi::default(),
+            ring: Ring::default(),
             produced: 0,
             taken: 0,
             begun: Vec::new(),
@@ -66,7 +66,7 @@ impl Guest {
 
     /// How far req_prod may run ahead of the requests taken.
     fn room(&self) -> u32 {
-        SLOTS as u32 - self.begun.len() as u32
+        self.ring.slots() - self.begun.len() as u32
     }
 }
 
@@ -76,6 +76,8 @@ enum Pace {
     Busy,
     Slow,
     Quiet,
+    /// One guest has the host to itself, so that its ring fills up.
+    Lone(usize),
 }
 
 /// Makes steps. The same seed and the same answers give the same steps.
@@ -127,7 +129,7 @@ impl Generator {
         self.change_moods();
         let mut writes = Vec::new();
         self.write_grants(&mut writes);
-        self.set_up_pages(world, &mut writes);
+        self.set_up_rings(world, &mut writes);
         self.guests_write(world, &mut writes);
         let call = self.choose_call();
         Step { writes, call }
@@ -150,10 +152,15 @@ impl Generator {
         let guest = &mut self.guests[port];
         guest.state = State::Open;
         guest.disk = read_sheet(sheet).ok();
-        guest.abi = Abi::of_sheet(sheet);
+        guest.ring = Ring::of_sheet(sheet);
         guest.taken = 0;
         guest.begun.clear();
         guest.fresh = true;
+    }
+
+    /// A port that was just opened has passed over so many requests.
+    pub(crate) fn skip(&mut self, port: usize, requests: u32) {
+        self.guests[port].taken = requests;
     }
 
     fn turned(&mut self, words: &TurnWords) {
@@ -191,9 +198,10 @@ impl Generator {
 
     fn change_moods(&mut self) {
         if self.random.below(150) == 0 {
+            let lone = Pace::Lone(self.random.index(PORTS));
             self.pace = self
                 .random
-                .pick(&[Pace::Busy, Pace::Busy, Pace::Slow, Pace::Quiet]);
+                .pick(&[Pace::Busy, Pace::Busy, Pace::Slow, Pace::Quiet, lone]);
         }
         if self.random.below(300) == 0 {
             self.host_sleeps = self.random.chance(25);

@@ -8,10 +8,10 @@ use crate::guest::{compare_guests, GuestProgram};
 use crate::requests::DISCARD;
 use crate::run::{at_fault, compare, run_list, Failure, Program};
 use crate::tally::Tally;
-use crate::{Core, GuestCall, GuestCore, GuestOutcome, Outcome, Step};
+use crate::{Core, GuestCall, GuestCore, GuestOutcome, Outcome, Step, World};
 use generator::HalvesGenerator;
 use history::{Event, HalvesEvent, HalvesHistory, History};
-use kernelharp::layout::{page, page_mut, Abi, SLOTS};
+use kernelharp::layout::{ring, ring_mut, Abi, Pages, PAGE_BYTES, PAGE_SLOTS};
 use kernelharp::words::{collect, done, kind, request, turn, TurnWords};
 
 /// One pair of programs.
@@ -89,7 +89,7 @@ impl Run<'_> {
         let (port, mut outcomes) = (self.port, Vec::new());
         for (index, (guest, backend)) in self.guests.iter_mut().zip(&mut self.backends).enumerate()
         {
-            let page = page_mut(&mut backend.world.rings, port);
+            let page = &mut ring_mut(&mut backend.world.rings, port)[..PAGE_BYTES];
             let outcome = guest.call(page, call);
             outcomes.push(outcome.map_err(|fault| format!("guest {index}: {fault}"))?);
         }
@@ -100,7 +100,7 @@ impl Run<'_> {
             compare_guests((first, rings), other)
                 .map_err(|fault| format!("guests 0 and {index} differ: {fault}"))?;
         }
-        let (lent, left) = self.guests[0].lent_and_left(page(rings, port));
+        let (lent, left) = self.guests[0].lent_and_left(&ring(rings, port)[..PAGE_BYTES]);
         let code = first.code;
         let event = match call {
             GuestCall::Put { request, .. } => HalvesEvent::Put {
@@ -142,9 +142,12 @@ impl Run<'_> {
 pub fn run_halves(pairs: Vec<Halves>, seed: u64, calls: u64) -> Result<HalvesReport, Failure> {
     let mut generator = HalvesGenerator::new(seed);
     let port = generator.port();
+    let pairs = pairs.into_iter().zip(World::of_programs());
     let (backends, guests) = pairs
-        .into_iter()
-        .map(|pair| (Program::new(pair.backend), GuestProgram::new(pair.guest)))
+        .map(|(pair, world)| {
+            let backend = Program::new(pair.backend, world);
+            (backend, GuestProgram::new(pair.guest))
+        })
         .unzip();
     let mut run = Run {
         port,
@@ -245,7 +248,7 @@ fn note_backend(tally: &mut Tally, halves: &HalvesHistory, port: usize, event: &
     match *event {
         Event::Turn { code, .. } if code != 0 => tally.tick(&format!("turn refused {code:02}")),
         Event::Turn { lent, answer, .. } => {
-            let slot = &page(lent, port)[Abi::Bits64.slot_at(halves.taken())..];
+            let slot = &ring(lent, port)[Abi::Bits64.slot_at(Pages::One, halves.taken())..];
             note_turn(tally, halves, port, slot, answer);
         }
         Event::Complete {
@@ -294,13 +297,13 @@ fn note_start(tally: &mut Tally, flag: u8, answer: &TurnWords) {
 
 fn note_full(tally: &mut Tally, halves: &HalvesHistory) {
     let outstanding = halves.outstanding();
-    if outstanding.iter().sum::<usize>() < SLOTS {
+    if outstanding.iter().sum::<usize>() < PAGE_SLOTS {
         return;
     }
     let [waiting, in_flight, answered] = outstanding;
-    tally.tick_if(waiting == SLOTS, "32 outstanding, all waiting");
-    tally.tick_if(in_flight == SLOTS, "32 outstanding, all in flight");
-    tally.tick_if(answered == SLOTS, "32 outstanding, all answered");
+    tally.tick_if(waiting == PAGE_SLOTS, "32 outstanding, all waiting");
+    tally.tick_if(in_flight == PAGE_SLOTS, "32 outstanding, all in flight");
+    tally.tick_if(answered == PAGE_SLOTS, "32 outstanding, all answered");
     let each = waiting > 0 && in_flight > 0 && answered > 0;
     tally.tick_if(each, "32 outstanding, some of each");
 }

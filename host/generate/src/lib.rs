@@ -3,7 +3,8 @@
 //! A [`Step`] is what guests (and the host, in the grants) write, and then one call. The
 //! [`Generator`] makes steps; it looks at the answers of the first program, as a real host does.
 //! The other programs get the very same steps, and [`run`] stops at the first difference. Beside the
-//! calls, the host hands each answer over to a record of counters, and zeroes records. The guest's half
+//! calls, the host hands each answer over to a record of counters, and zeroes records; and ports that were
+//! just opened are set to indices that calls would take too long to reach. The guest's half
 //! has lists of its own ([`run_guests`]), and lists on one page with a backend ([`run_halves`]).
 //!
 //! To compare another program, implement [`Core`] for it and run it beside the second program:
@@ -24,8 +25,10 @@ mod meters;
 mod programs;
 mod random;
 mod requests;
+mod ring;
 mod run;
 mod sheets;
+mod skips;
 mod tally;
 mod world;
 
@@ -39,6 +42,7 @@ pub use halves::{run_halves, Halves, HalvesReport};
 pub use meters::{meter_of, numbers};
 pub use programs::{done_words, for_second, turn_words, Core};
 pub use random::Random;
+pub use ring::Ring;
 pub use run::{run, Failure, Report};
 pub use tally::Tally;
 pub use world::{Outcome, World, UNTOUCHED};
@@ -80,7 +84,7 @@ pub enum Call {
 /// Which buffer a [`Write`] goes to.
 #[derive(Clone, Copy, Debug, PartialEq, Eq)]
 pub enum Buffer {
-    /// The ring pages, written by guests.
+    /// The rings, written by guests.
     Rings,
     /// The grants, written by the host.
     Grants,

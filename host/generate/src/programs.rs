@@ -22,11 +22,19 @@ pub trait Core {
     /// `kh_meter_completion`
     fn meter_completion(&self, meter: &mut Meter, returned: u32, answer: &DoneWords);
 
+    /// No call: a port that was just opened is as after so many requests, each taken and answered.
+    fn skip(&mut self, port: usize, requests: u32);
+
     /// The words that a refused call must leave as they are; none where a program has no such words.
     fn memory(&self) -> &[u64] {
         &[]
     }
 }
+
+/// Backend memory has so many words to a port, and among them its two indices.
+const PORT_WORDS: usize = 269;
+const REQ_CONS: usize = 10;
+const RSP_PROD_PVT: usize = 11;
 
 /// The archive.
 impl Core for Memory {
@@ -52,6 +60,12 @@ impl Core for Memory {
 
     fn meter_completion(&self, meter: &mut Meter, returned: u32, answer: &DoneWords) {
         meter.completion(returned, answer);
+    }
+
+    fn skip(&mut self, port: usize, requests: u32) {
+        let port = &mut self.words_mut()[PORT_WORDS * port..][..PORT_WORDS];
+        port[REQ_CONS] = u64::from(requests);
+        port[RSP_PROD_PVT] = u64::from(requests);
     }
 
     fn memory(&self) -> &[u64] {
@@ -87,6 +101,10 @@ impl Core for Backend {
 
     fn meter_completion(&self, meter: &mut Meter, returned: u32, answer: &DoneWords) {
         lend(meter, |own| own.completion_words(returned, answer));
+    }
+
+    fn skip(&mut self, port: usize, requests: u32) {
+        Backend::skip(self, port, requests);
     }
 }
 

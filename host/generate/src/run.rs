@@ -1,6 +1,7 @@
 //! Running one list through several programs, and comparing them.
 
 use crate::meters::{Billing, Records};
+use crate::skips::Skips;
 use crate::{Call, Census, Core, Generator, Outcome, Step, World, UNTOUCHED};
 use history::{Event, History};
 use second::Refusal;
@@ -45,11 +46,11 @@ pub(crate) struct Program<'a> {
 }
 
 impl<'a> Program<'a> {
-    pub(crate) fn new(core: &'a mut dyn Core) -> Program<'a> {
+    pub(crate) fn new(core: &'a mut dyn Core, world: World) -> Program<'a> {
         let memory = core.memory().to_vec();
         Program {
             core,
-            world: World::new(),
+            world,
             records: Records::new(),
             memory,
         }
@@ -57,6 +58,11 @@ impl<'a> Program<'a> {
 
     pub(crate) fn run(&mut self, step: &Step) -> Outcome {
         self.world.run(self.core, step)
+    }
+
+    fn skip(&mut self, port: usize, requests: u32) {
+        self.core.skip(port, requests);
+        self.memory.copy_from_slice(self.core.memory());
     }
 
     /// A refused call leaves the memory (rule 14.6).
@@ -74,6 +80,7 @@ impl<'a> Program<'a> {
 struct Run<'a> {
     programs: Vec<Program<'a>>,
     billing: Billing,
+    skips: Skips,
     history: History,
     census: Census,
 }
@@ -93,6 +100,20 @@ impl Run<'_> {
         self.zero()?;
         self.try_words(call, &outcomes[0])?;
         Ok(outcomes.swap_remove(0))
+    }
+
+    /// Has a port that was just opened pass over requests, or not. Gives how many.
+    fn skip(&mut self, port: usize) -> Result<u32, String> {
+        let Some(requests) = self.skips.requests() else {
+            return Ok(0);
+        };
+        for program in &mut self.programs {
+            program.skip(port, requests);
+        }
+        let event = Event::Skipped { port, requests };
+        self.census.note(&self.history, &event);
+        self.history.check(&event)?;
+        Ok(requests)
     }
 
     /// Rule 15.6: the answer goes to a record, and each record is what the history says.
@@ -152,21 +173,28 @@ impl Run<'_> {
 /// Runs a list of `calls` random calls through every program at once. After each call all must
 /// have given the same code, the same words and the same rings, grants and sheet; a refused call
 /// must have left memory and answer; and demand 3 must hold of the first program's history. All
-/// must have raised the same records by the answers, the first one's as its history says.
+/// must have raised the same records by the answers, the first one's as its history says. Half of the
+/// ports that are opened begin at indices other than 0, and the history counts on from there.
 pub fn run(cores: &mut [&mut dyn Core], seed: u64, calls: u64) -> Result<Report, Failure> {
     let mut generator = Generator::new(seed);
+    let programs = cores.iter_mut().zip(World::of_programs());
+    let programs = programs.map(|(core, world)| Program::new(*core, world));
     let mut run = Run {
-        programs: cores.iter_mut().map(|core| Program::new(*core)).collect(),
+        programs: programs.collect(),
         billing: Billing::new(seed),
+        skips: Skips::new(seed),
         history: History::new(),
         census: Census::new(),
     };
     run_list(seed, calls, || {
         let step = generator.next_step(&run.programs[0].world);
-        let outcome = run
-            .step(&step)
-            .map_err(|fault| at_fault(&step.call, fault))?;
+        let fault = |fault| at_fault(&step.call, fault);
+        let outcome = run.step(&step).map_err(fault)?;
         generator.observe(&step.call, &outcome);
+        if let (Call::Open { port, .. }, 0) = (&step.call, outcome.code) {
+            let port = *port as usize;
+            generator.skip(port, run.skip(port).map_err(fault)?);
+        }
         Ok(())
     })?;
     Ok(Report {

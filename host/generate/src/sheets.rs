@@ -1,7 +1,7 @@
 //! Node sheets: sound ones, and ones damaged in every way that section 7 names.
 
 use crate::Random;
-use kernelharp::layout::Abi;
+use kernelharp::layout::{Abi, Pages};
 
 /// Texts that are none of node 8, though near to one.
 pub const NEAR_PROTOCOLS: [&str; 12] = [
@@ -17,6 +17,25 @@ pub const NEAR_PROTOCOLS: [&str; 12] = [
     "x86_34-abi",
     "x86_62-abi",
     "x86_32-abi\0",
+];
+
+/// Texts of node 9 that are no number.
+pub const NO_ORDERS: [&str; 12] = [
+    "", "00", "01", "+0", "+1", "-0", "-1", "0 ", "1 ", " 1", "1\0", "a",
+];
+
+/// Numbers that node 9 does not allow: the next ones, longer ones, and ones that are 0 or 1 if a reader
+/// counts modulo a power of two.
+pub const OTHER_ORDERS: [&str; 9] = [
+    "2",
+    "3",
+    "4",
+    "10",
+    "11",
+    "4294967296",
+    "4294967297",
+    "18446744073709551616",
+    "18446744073709551617",
 ];
 
 /// One entry before it is put into bytes.
@@ -86,8 +105,10 @@ fn sound_entries(random: &mut Random) -> Vec<Entry> {
         let abi = random.pick(&[Abi::Bits64, Abi::Bits32, Abi::Bits32]);
         entries.push(Entry::new(8, abi.protocol().as_bytes()));
     }
-    if random.chance(40) {
-        entries.push(Entry::new(9, b"0"));
+    // As many rings of one page as of two, one half of the former without the node.
+    if random.chance(75) {
+        let pages = random.pick(&[Pages::One, Pages::Two, Pages::Two]);
+        entries.push(Entry::new(9, pages.order().as_bytes()));
     }
     entries
 }
@@ -169,7 +190,7 @@ fn spoil_text(random: &mut Random, entries: &mut Vec<Entry>) {
             "1844674407370955161x",
         ],
         8 => &NEAR_PROTOCOLS,
-        _ => &["", "00", "+0", "-0", "0 ", "a", "01"],
+        _ => &NO_ORDERS,
     };
     let text = if matches!(node, 6 | 7 | 9) && random.chance(10) {
         &long_number
@@ -210,7 +231,7 @@ fn spoil_number(random: &mut Random, entries: &mut Vec<Entry>) {
             "184467440737095516150",
             "340282366920938463463374607431768213464",
         ],
-        _ => &["1", "2", "10", "4294967296", "18446744073709551616"],
+        _ => &OTHER_ORDERS,
     };
     let text = if random.chance(15) {
         &long_number

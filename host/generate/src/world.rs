@@ -4,6 +4,7 @@ use crate::{Buffer, Call, Core, Step};
 use history::Event;
 use kernelharp::layout::{GRANTS_BYTES, RINGS_BYTES};
 use kernelharp::words::{DoneWords, TurnWords, DONE_WORDS, TURN_WORDS};
+use std::iter;
 
 /// What a call gave: its code, and the words of a turn or a completion.
 #[derive(Clone, Debug, PartialEq, Eq)]
@@ -23,6 +24,8 @@ pub const UNTOUCHED: u64 = 0xA5A5_5A5A_C3C3_3C3C;
 pub struct World {
     pub(crate) rings: Vec<u8>,
     pub(crate) grants: Vec<u8>,
+    /// Whether anybody is told of the calls: only then what they are lent is kept.
+    told: bool,
     /// The rings as the last call was lent them.
     lent: Vec<u8>,
     /// The grants as the last call was lent them, when of another length than due.
@@ -38,6 +41,7 @@ impl Default for World {
         World {
             rings: vec![0; RINGS_BYTES],
             grants: vec![0; GRANTS_BYTES],
+            told: true,
             lent: Vec::new(),
             odd_grants: Vec::new(),
             odd_left: Vec::new(),
@@ -52,7 +56,16 @@ impl World {
         World::default()
     }
 
-    /// The ring pages as they are now.
+    /// Buffers for the programs of a list. The checker is told of the first one's calls alone.
+    pub(crate) fn of_programs() -> impl Iterator<Item = World> {
+        let untold = || World {
+            told: false,
+            ..World::default()
+        };
+        iter::once(World::new()).chain(iter::repeat_with(untold))
+    }
+
+    /// The rings as they are now.
     pub fn rings(&self) -> &[u8] {
         &self.rings
     }
@@ -110,7 +123,9 @@ impl World {
 
     /// Notes what is lent. Rings of the due length are lent themselves, others as a copy.
     fn lend(&mut self, rings_bytes: usize, grants_bytes: usize) -> (&mut [u8], &[u8]) {
-        copy_of_length(&mut self.lent, &self.rings, rings_bytes);
+        if self.told || rings_bytes != RINGS_BYTES {
+            copy_of_length(&mut self.lent, &self.rings, rings_bytes);
+        }
         let grants = if grants_bytes == GRANTS_BYTES {
             &self.grants
         } else {

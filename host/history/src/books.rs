@@ -1,6 +1,6 @@
 //! What is counted of a port since its opening.
 
-use crate::page::{Layout, Pair, SLOTS};
+use crate::places::{Pair, Ring};
 use std::collections::HashMap;
 
 /// A request that was taken and has no response yet (rule 12.16).
@@ -13,12 +13,12 @@ struct Unfinished {
 /// What is counted of a port since its opening.
 #[derive(Debug, Default)]
 pub struct Books {
-    layout: Layout,
+    pub ring: Ring,
     pub taken: u64,
     answered: u64,
-    /// The unfinished request of each tag that a start named. One place per tag is enough: a start
-    /// that names a busy tag is a fault at once.
-    unfinished: [Option<Unfinished>; SLOTS],
+    /// The unfinished request of each tag that a start named; a ring has as many tags as slots. One place
+    /// per tag is enough: a start that names a busy tag is a fault at once.
+    unfinished: Vec<Option<Unfinished>>,
     /// Pairs taken, less pairs answered, less pairs unfinished, as multisets: a pair whose count
     /// is zero is left out, so the two sides are equal exactly when this is empty.
     balance: HashMap<Pair, i64>,
@@ -26,11 +26,18 @@ pub struct Books {
 
 impl Books {
     /// Those of an opening.
-    pub fn new(layout: Layout) -> Books {
+    pub fn new(ring: Ring) -> Books {
         Books {
-            layout,
+            ring,
+            unfinished: vec![None; ring.slots as usize],
             ..Books::default()
         }
+    }
+
+    /// So many requests taken and answered, none of which is looked at.
+    pub fn skip(&mut self, requests: u32) {
+        self.taken += u64::from(requests);
+        self.answered += u64::from(requests);
     }
 
     /// C, by rule 12.27.
@@ -70,21 +77,21 @@ impl Books {
         }
     }
 
-    /// Rule 12.12: a request's pair, from the page lent.
-    pub fn take(&mut self, page: &[u8]) -> Pair {
-        let pair = self.layout.request_pair(page, self.taken_index());
+    /// Rule 12.12: a request's pair, from the share lent.
+    pub fn take(&mut self, share: &[u8]) -> Pair {
+        let pair = self.ring.request_pair(share, self.taken_index());
         self.taken += 1;
         self.weigh(pair, 1);
         pair
     }
 
-    /// Rule 12.15: a response's pair, from the page left. Gives the status that stands beside it.
-    pub fn answer(&mut self, page: &[u8]) -> u16 {
+    /// Rule 12.15: a response's pair, from the share left. Gives the status that stands beside it.
+    pub fn answer(&mut self, share: &[u8]) -> u16 {
         let index = self.answered_index();
-        let pair = self.layout.response_pair(page, index);
+        let pair = self.ring.response_pair(share, index);
         self.answered += 1;
         self.weigh(pair, -1);
-        self.layout.response_status(page, index)
+        self.ring.response_status(share, index)
     }
 
     pub fn begin(&mut self, tag: usize, serial: u32, pair: Pair) {

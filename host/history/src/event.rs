@@ -1,9 +1,11 @@
-//! One call of a history, as the checker is told of it (rule 12.6), or one zeroing of a record.
+//! One call of a history, as the checker is told of it (rule 12.6), one zeroing of a record, or calls that
+//! it is not told of one by one.
 
-use crate::page::{DONE_WORDS, TURN_WORDS};
+use crate::places::{DONE_WORDS, TURN_WORDS};
 use crate::refusal::NONE;
 
-/// One entry of the history: a call, or what the host did between calls to a record of counters. A
+/// One entry of the history: a call, what the host did between calls to a record of counters, or requests
+/// that were passed over. A
 /// `code` of 0 says that the call was done, any other is the refusal's number; answers are the words
 /// of the C interface's tables, looked at only when it was done.
 #[derive(Clone, Copy, Debug)]
@@ -61,17 +63,26 @@ pub enum Event<'a> {
         /// The port whose record it is, below 8.
         port: usize,
     },
+    /// A port that was just opened is as it would be after so many requests, each of them taken and
+    /// answered. What was in them, and the turns that served them, nobody knows: the checker counts on
+    /// from there and claims nothing of what was passed over, nor do the records count it.
+    Skipped {
+        /// The port, which is open.
+        port: usize,
+        /// How many requests were taken and answered.
+        requests: u32,
+    },
 }
 
 impl Event<'_> {
-    /// 0 or the refusal. A zeroing asks nobody, so it is done.
+    /// 0 or the refusal. A zeroing asks nobody, so it is done, and so is what was passed over.
     pub fn code(&self) -> u32 {
         match *self {
             Event::Open { code, .. }
             | Event::Close { code, .. }
             | Event::Turn { code, .. }
             | Event::Complete { code, .. } => code,
-            Event::Zeroed { .. } => NONE,
+            Event::Zeroed { .. } | Event::Skipped { .. } => NONE,
         }
     }
 }

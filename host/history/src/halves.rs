@@ -1,16 +1,16 @@
 //! A guest and a backend with one page between them, and nobody else who writes it: what is claimed of
 //! both together (section 16 of docs/RULES.md), checked from their calls alone.
 //!
-//! The guest is fresh, the page zeros, and the port a 64-bit one that is opened once. Then the requests
+//! The guest is fresh, the page zeros, and the port a 64-bit one with one page that is opened once. Then the requests
 //! that the backend takes are those that were put, in that order and in every field, and it sees no
 //! overrun; the responses that the guest collects are those that the backend gave, in that order, and
 //! no page is refused.
 
 mod request;
 
-use crate::page::{
-    kind, page, turn, u32_at, u64_at, Layout, DONE_STATUS, DONE_WORDS, RING_BYTES, SLOTS,
-    TURN_WORDS,
+use crate::places::{
+    kind, share, turn, u32_at, u64_at, Layout, Ring, DONE_STATUS, DONE_WORDS, PAGE_BYTES,
+    PAGE_SLOTS, TURN_WORDS,
 };
 use crate::refusal::{BAD_REQUEST, ID_OUTSTANDING, NONE, RING_FULL, WRONG_LENGTH};
 use crate::{sheet, Event};
@@ -20,6 +20,12 @@ use std::collections::{HashMap, VecDeque};
 /// Words of a request that is put, and of a collect's answer.
 pub const REQUEST_WORDS: usize = 41;
 pub const COLLECT_WORDS: usize = 4;
+
+/// The ring that both halves know: a 64-bit guest's, of one page.
+const RING: Ring = Ring {
+    layout: Layout::Bits64,
+    slots: PAGE_SLOTS,
+};
 
 /// One call of either half.
 #[derive(Clone, Copy, Debug)]
@@ -83,7 +89,7 @@ impl HalvesHistory {
     pub fn new(port: usize) -> HalvesHistory {
         HalvesHistory {
             port,
-            page: vec![0; RING_BYTES],
+            page: vec![0; PAGE_BYTES],
             opened: false,
             closed: false,
             discard_secure: false,
@@ -115,6 +121,11 @@ impl HalvesHistory {
         [self.waiting.len(), self.started.len(), self.responses.len()]
     }
 
+    /// The page within the rings.
+    fn page<'a>(&self, rings: &'a [u8]) -> &'a [u8] {
+        &share(rings, self.port)[..PAGE_BYTES]
+    }
+
     /// Adds a call and checks the claim over all of them.
     pub fn check(&mut self, event: &HalvesEvent) -> Result<(), String> {
         match *event {
@@ -143,7 +154,7 @@ impl HalvesHistory {
     /// That nobody but the two halves writes the page is for the caller to see to; without it nothing
     /// is claimed. A page of another length is none of theirs.
     fn pass_on(&mut self, lent: &[u8], left: &[u8]) -> Result<(), String> {
-        if lent.len() != RING_BYTES {
+        if lent.len() != PAGE_BYTES {
             return Ok(());
         }
         if lent != self.page {
@@ -156,8 +167,8 @@ impl HalvesHistory {
     fn put(&mut self, lent: &[u8], words: &[u64; REQUEST_WORDS], code: u32) -> Result<(), String> {
         let request = Request::of_words(words);
         let due = match &request {
-            _ if lent.len() != RING_BYTES => WRONG_LENGTH,
-            _ if self.outstanding().iter().sum::<usize>() == SLOTS => RING_FULL,
+            _ if lent.len() != PAGE_BYTES => WRONG_LENGTH,
+            _ if self.outstanding().iter().sum::<usize>() == PAGE_SLOTS as usize => RING_FULL,
             _ if self.is_outstanding(request::id(words)) => ID_OUTSTANDING,
             None => BAD_REQUEST,
             Some(_) => NONE,
@@ -185,7 +196,7 @@ impl HalvesHistory {
         answer: &[u64; COLLECT_WORDS],
     ) -> Result<(), String> {
         let due = match lent.len() {
-            RING_BYTES => NONE,
+            PAGE_BYTES => NONE,
             _ => WRONG_LENGTH,
         };
         check_code("collecting", code, due)?;
@@ -218,8 +229,8 @@ impl HalvesHistory {
             Event::Turn {
                 lent, left, answer, ..
             } => {
-                self.pass_on(page(lent, self.port), page(left, self.port))?;
-                self.turned(page(lent, self.port), page(left, self.port), answer)
+                self.pass_on(self.page(lent), self.page(left))?;
+                self.turned(self.page(lent), self.page(left), answer)
             }
             Event::Complete {
                 lent,
@@ -229,19 +240,22 @@ impl HalvesHistory {
                 answer,
                 ..
             } => {
-                self.pass_on(page(lent, self.port), page(left, self.port))?;
+                self.pass_on(self.page(lent), self.page(left))?;
                 if port as usize == self.port {
-                    self.completed(page(left, self.port), tag, answer)?;
+                    self.completed(self.page(left), tag, answer)?;
                 }
                 Ok(())
             }
-            Event::Open { .. } | Event::Close { .. } | Event::Zeroed { .. } => Ok(()),
+            Event::Open { .. }
+            | Event::Close { .. }
+            | Event::Zeroed { .. }
+            | Event::Skipped { .. } => Ok(()),
         }
     }
 
     fn open(&mut self, sheet: &[u8]) -> Result<(), String> {
-        if self.opened || sheet::layout(sheet) != Layout::Bits64 {
-            return Err("the port is a 64-bit one that is opened once".into());
+        if self.opened || sheet::ring(sheet) != RING {
+            return Err("the port is a 64-bit one with one page that is opened once".into());
         }
         self.opened = true;
         self.discard_secure = sheet::discard_secure(sheet);
@@ -283,7 +297,7 @@ impl HalvesHistory {
         let Some(put) = self.waiting.pop_front() else {
             return Err("a request was taken that was not put".into());
         };
-        let taken = Request::of_slot(Layout::Bits64.slot(lent, self.taken));
+        let taken = Request::of_slot(RING.slot(lent, self.taken));
         if taken != put {
             return Err(format!("taken {taken:x?}, put {put:x?}"));
         }
@@ -306,7 +320,7 @@ impl HalvesHistory {
     /// The response to a request: its id and operation, and the status that the call answered, which
     /// stands there without its sign.
     fn answer(&mut self, left: &[u8], request: &Request, status: u64) -> Result<(), String> {
-        let slot = Layout::Bits64.slot(left, self.answered);
+        let slot = RING.slot(left, self.answered);
         let given = Response {
             id: u64_at(slot, 0),
             operation: slot[8],

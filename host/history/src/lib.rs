@@ -11,7 +11,7 @@ mod books;
 mod counts;
 mod event;
 mod halves;
-mod page;
+mod places;
 mod refusal;
 mod sheet;
 mod wait;
@@ -22,9 +22,9 @@ pub use halves::{HalvesEvent, HalvesHistory};
 
 use books::Books;
 use counts::Counts;
-use page::{
-    kind, page, turn, u32_at, DONE_PORT, DONE_WORDS, GRANTS_BYTES, PORTS, REQ_EVENT, REQ_PROD,
-    RINGS_BYTES, RING_BYTES, SLOTS, TURN_WORDS,
+use places::{
+    kind, share, turn, u32_at, DONE_PORT, DONE_WORDS, GRANTS_BYTES, PORTS, REQ_EVENT, REQ_PROD,
+    RINGS_BYTES, SHARE_BYTES, TURN_WORDS,
 };
 use refusal::{IN_FLIGHT, IS_CLOSED, NONE, NOT_BUSY, NOT_CLOSED, NO_PORT, WRONG_LENGTH};
 use wait::Wait;
@@ -53,15 +53,16 @@ struct Port {
 }
 
 impl Port {
-    /// Rule 12.17: whether it has something to serve at a turn that is lent this page.
-    fn has_something(&self, page: &[u8]) -> bool {
-        self.state == State::Open && u32_at(page, REQ_PROD) != self.books.taken_index()
+    /// Rule 12.17: whether it has something to serve at a turn that is lent this share.
+    fn has_something(&self, share: &[u8]) -> bool {
+        self.state == State::Open && u32_at(share, REQ_PROD) != self.books.taken_index()
     }
 
     /// Rule 4.12, read with rule 12.27: whether req_prod is ahead by more than the ring has room for.
-    fn is_overrun(&self, page: &[u8]) -> bool {
-        let ahead = u32_at(page, REQ_PROD).wrapping_sub(self.books.taken_index());
-        u64::from(ahead) + u64::from(self.books.count_unfinished()) > SLOTS as u64
+    fn is_overrun(&self, share: &[u8]) -> bool {
+        let ahead = u32_at(share, REQ_PROD).wrapping_sub(self.books.taken_index());
+        let slots = u64::from(self.books.ring.slots);
+        u64::from(ahead) + u64::from(self.books.count_unfinished()) > slots
     }
 
     /// Rule 12.13.
@@ -71,7 +72,7 @@ impl Port {
         self.answer(left);
     }
 
-    /// A response, as the page left has it.
+    /// A response, as the share left has it.
     fn answer(&mut self, left: &[u8]) {
         let status = self.books.answer(left);
         self.counts.answer(status);
@@ -97,7 +98,7 @@ impl History {
         self.ports[port].state
     }
 
-    /// Requests taken since the opening.
+    /// Requests taken since the opening, those passed over too.
     pub fn taken(&self, port: usize) -> u64 {
         self.ports[port].books.taken
     }
@@ -130,13 +131,19 @@ impl History {
                 lent, left, answer, ..
             } if code == NONE => self.turned(lent, left, answer),
             Event::Complete {
+                lent,
                 left,
                 port,
                 tag,
                 answer,
                 ..
-            } if code == NONE => self.completed(left, port, tag, answer),
+            } if code == NONE => {
+                same_length(lent, left)?;
+                self.check_behind_rings(lent, left)?;
+                self.completed(left, port, tag, answer)
+            }
             Event::Zeroed { port } => self.zeroed(port),
+            Event::Skipped { port, requests } => self.skipped(port, requests),
             Event::Open { .. } | Event::Close { .. } => Ok(()),
             Event::Turn { lent, left, .. } | Event::Complete { lent, left, .. } => {
                 unchanged(lent, left, "a refused call")
@@ -171,7 +178,7 @@ impl History {
                 Some(known) if !known.books.is_busy(tag, serial) => NOT_BUSY,
                 Some(_) => NONE,
             },
-            Event::Zeroed { .. } => NONE,
+            Event::Zeroed { .. } | Event::Skipped { .. } => NONE,
         }
     }
 
@@ -185,11 +192,22 @@ impl History {
         Ok(())
     }
 
-    /// An opening begins new books, in the layout that its sheet asks for.
+    /// An opening begins new books, of the ring that its sheet asks for.
     fn opened(&mut self, port: usize, sheet: &[u8]) -> Result<(), String> {
         self.ports[port].state = State::Open;
-        self.ports[port].books = Books::new(sheet::layout(sheet));
+        self.ports[port].books = Books::new(sheet::ring(sheet));
         Ok(())
+    }
+
+    /// Only before anything else was taken: then nothing that is claimed later speaks of it.
+    fn skipped(&mut self, number: usize, requests: u32) -> Result<(), String> {
+        match self.ports.get_mut(number) {
+            Some(port) if port.state == State::Open && port.books.taken == 0 => {
+                port.books.skip(requests);
+                Ok(())
+            }
+            _ => Err(format!("port {number} was not just opened")),
+        }
     }
 
     fn closed(&mut self, port: usize) -> Result<(), String> {
@@ -213,8 +231,9 @@ impl History {
         answer: &[u64; TURN_WORDS],
     ) -> Result<(), String> {
         same_length(lent, left)?;
+        self.check_behind_rings(lent, left)?;
         let something: [bool; PORTS] =
-            std::array::from_fn(|port| self.ports[port].has_something(page(lent, port)));
+            std::array::from_fn(|port| self.ports[port].has_something(share(lent, port)));
         let served = match answer[turn::KIND] {
             kind::IDLE => None,
             kind::STARTED..=kind::OVERRUN => Some(port_number(answer[turn::PORT])?),
@@ -251,13 +270,16 @@ impl History {
             return Err(format!("idle, but port {port} has something to serve"));
         }
         for (number, port) in self.ports.iter().enumerate() {
-            let mut due = [0; RING_BYTES];
-            due.copy_from_slice(page(lent, number));
-            if port.state == State::Open {
-                let event = port.books.taken_index().wrapping_add(1);
-                due[REQ_EVENT..REQ_EVENT + 4].copy_from_slice(&event.to_le_bytes());
-            }
-            unchanged(&due, page(left, number), "an idle turn, req_event aside")?;
+            let (lent, left) = (share(lent, number), share(left, number));
+            let event = match port.state {
+                State::Open => port.books.taken_index().wrapping_add(1),
+                State::Closed | State::Broken => u32_at(lent, REQ_EVENT),
+            };
+            let behind = REQ_EVENT + 4;
+            let what = "an idle turn, req_event aside,";
+            unchanged(&lent[..REQ_EVENT], &left[..REQ_EVENT], what)?;
+            unchanged(&event.to_le_bytes(), &left[REQ_EVENT..behind], what)?;
+            unchanged(&lent[behind..], &left[behind..], what)?;
         }
         Ok(())
     }
@@ -271,7 +293,7 @@ impl History {
         answer: &[u64; TURN_WORDS],
     ) -> Result<(), String> {
         let port = &mut self.ports[number];
-        let overrun_due = port.is_overrun(page(lent, number));
+        let overrun_due = port.is_overrun(share(lent, number));
         if overrun_due != (answer[turn::KIND] == kind::OVERRUN) {
             return Err(format!(
                 "port {number}: an overrun was {}due, the answer's kind is {}",
@@ -281,10 +303,10 @@ impl History {
         }
         match answer[turn::KIND] {
             kind::STARTED => {
-                started(&mut port.books, page(lent, number), answer)?;
+                started(&mut port.books, share(lent, number), answer)?;
                 port.counts.take();
             }
-            kind::ANSWERED => port.answered_at_once(page(lent, number), page(left, number)),
+            kind::ANSWERED => port.answered_at_once(share(lent, number), share(left, number)),
             _ => {
                 port.state = State::Broken;
                 unchanged(lent, left, "an overrun")?;
@@ -293,6 +315,18 @@ impl History {
         port.books
             .check()
             .map_err(|fault| format!("port {number}: {fault}"))
+    }
+
+    /// What is behind the ring in the share of a port that is open or broken stays (rule 1.3).
+    fn check_behind_rings(&self, lent: &[u8], left: &[u8]) -> Result<(), String> {
+        for (number, port) in self.ports.iter().enumerate() {
+            if port.state != State::Closed {
+                let behind = port.books.ring.bytes()..SHARE_BYTES;
+                let (lent, left) = (share(lent, number), share(left, number));
+                unchanged(&lent[behind.clone()], &left[behind], "a call behind a ring")?;
+            }
+        }
+        Ok(())
     }
 
     /// Rule 12.14: the response is the newest such request's. Serials repeat only after 2^32 requests and a
@@ -305,16 +339,13 @@ impl History {
         tag: u32,
         answer: &[u64; DONE_WORDS],
     ) -> Result<(), String> {
-        if left.len() != RINGS_BYTES {
-            return Err("the rings left have another length".into());
-        }
         let named = answer[DONE_PORT];
         if named != u64::from(port) {
             return Err(format!("the completion of port {port} names {named}"));
         }
         let known = &mut self.ports[port as usize];
         known.books.finish(tag as usize);
-        known.answer(page(left, port as usize));
+        known.answer(share(left, port as usize));
         known
             .books
             .check()
@@ -323,10 +354,10 @@ impl History {
 }
 
 /// Rule 12.26, of a start: the lowest free tag, and C as it was before.
-fn started(books: &mut Books, page: &[u8], answer: &[u64; TURN_WORDS]) -> Result<(), String> {
+fn started(books: &mut Books, share: &[u8], answer: &[u64; TURN_WORDS]) -> Result<(), String> {
     let serial = books.taken_index();
     let Some(tag) = books.lowest_free_tag() else {
-        return Err("a start with 32 requests unfinished".into());
+        return Err("a start with no tag free".into());
     };
     let named = (answer[turn::TAG], answer[turn::SERIAL]);
     if named != (tag as u64, u64::from(serial)) {
@@ -335,7 +366,7 @@ fn started(books: &mut Books, page: &[u8], answer: &[u64; TURN_WORDS]) -> Result
             named.0, named.1
         ));
     }
-    let pair = books.take(page);
+    let pair = books.take(share);
     books.begin(tag, serial, pair);
     Ok(())
 }

@@ -1,8 +1,9 @@
 //! Whether a node sheet opens a port, and what it is refused with if not (rules 7.11 to 7.15). Of what
-//! it says, demand 3 asks for the layout alone: where a pair is read depends on it. What is claimed of
-//! both halves asks for discard-secure too: the secure mark depends on it.
+//! it says, demand 3 asks for the ring alone, its layout and its slots: where a pair is read depends on
+//! it, and so do tags and overruns. What is claimed of both halves asks for discard-secure too: the secure
+//! mark depends on it.
 
-use crate::page::Layout;
+use crate::places::{Layout, Ring, PAGE_SLOTS};
 use crate::refusal::{NONE, SHEET_MISSING, SHEET_NODES, SHEET_NUMBER, SHEET_SHAPE, SHEET_TEXT};
 use std::ops::Range;
 
@@ -12,6 +13,10 @@ const MOST_SECTORS: &[u8] = b"18446744073709551615";
 /// The texts of node 8.
 const BITS_64: &[u8] = b"x86_64-abi";
 const BITS_32: &[u8] = b"x86_32-abi";
+
+/// Those of node 9.
+const ONE_PAGE: &[u8] = b"0";
+const TWO_PAGES: &[u8] = b"1";
 
 /// The refusal that a sheet is due, in the order of rule 3.10.
 pub fn refusal_due(sheet: &[u8]) -> u32 {
@@ -38,12 +43,17 @@ pub fn refusal_due(sheet: &[u8]) -> u32 {
     }
 }
 
-/// The layout of a sheet that opens a port (rule 3.5).
-pub fn layout(sheet: &[u8]) -> Layout {
-    if says(sheet, 8, BITS_32) {
+/// The ring of a sheet that opens a port (rule 3.5).
+pub fn ring(sheet: &[u8]) -> Ring {
+    let layout = if says(sheet, 8, BITS_32) {
         Layout::Bits32
     } else {
         Layout::Bits64
+    };
+    let pages = if says(sheet, 9, TWO_PAGES) { 2 } else { 1 };
+    Ring {
+        layout,
+        slots: pages * PAGE_SLOTS,
     }
 }
 
@@ -85,7 +95,7 @@ fn body_fault(node: u8, body: &[u8]) -> u32 {
         2..=5 => &[b"0", b"1"],
         6 => &[b"512", b"1024", b"2048", b"4096"],
         8 => &[BITS_64, BITS_32],
-        9 => &[b"0"],
+        9 => &[ONE_PAGE, TWO_PAGES],
         _ => &[],
     };
     let is_numeric = matches!(node, 6 | 7 | 9);
@@ -146,6 +156,7 @@ mod tests {
             (14, b'6', SHEET_NUMBER),
             (17, b'-', SHEET_TEXT),
             (9, 8, SHEET_TEXT),
+            // "2008" as a ring's page order.
             (9, 9, SHEET_NUMBER),
         ] {
             let mut sheet = SHEET_OF_21.to_vec();
@@ -156,24 +167,44 @@ mod tests {
         assert_eq!(refusal_due(b"\x01\x09\0\x01\x000"), SHEET_MISSING);
     }
 
+    /// The usual nodes with node 8 or 9 behind them.
+    fn with_node(node: u8, text: &str) -> Vec<u8> {
+        let head = b"\x04\x01\0\x01\0\x06\0\x03\0\x07\0\x01\0";
+        let length = (text.len() as u16).to_le_bytes();
+        [&head[..], &[node, 0], &length, b"w5129", text.as_bytes()].concat()
+    }
+
     #[test]
     fn layouts() {
-        let with_protocol = |text: &str| {
-            let head = b"\x04\x01\0\x01\0\x06\0\x03\0\x07\0\x01\0\x08\0";
-            let length = (text.len() as u16).to_le_bytes();
-            [&head[..], &length, b"w5129", text.as_bytes()].concat()
-        };
         for (text, due) in [
             ("x86_64-abi", Layout::Bits64),
             ("x86_32-abi", Layout::Bits32),
         ] {
-            let sheet = with_protocol(text);
-            assert_eq!((refusal_due(&sheet), layout(&sheet)), (NONE, due));
+            let sheet = with_node(8, text);
+            assert_eq!((refusal_due(&sheet), ring(&sheet).layout), (NONE, due));
         }
-        assert_eq!(layout(SHEET_OF_21), Layout::Bits64);
+        assert_eq!(ring(SHEET_OF_21), Ring::default());
         for text in ["", "x86_32-ab", "x86_32-abi ", "X86_32-abi", "x86_31-abi"] {
-            assert_eq!(refusal_due(&with_protocol(text)), SHEET_TEXT, "{text:?}");
+            assert_eq!(refusal_due(&with_node(8, text)), SHEET_TEXT, "{text:?}");
         }
+    }
+
+    #[test]
+    fn ring_page_orders() {
+        for (text, slots, bytes) in [("0", 32, 4096), ("1", 64, 8192)] {
+            let sheet = with_node(9, text);
+            assert_eq!(refusal_due(&sheet), NONE);
+            assert_eq!((ring(&sheet).slots, ring(&sheet).bytes()), (slots, bytes));
+        }
+        for text in ["2", "3", "10", "11", "4294967297", "18446744073709551617"] {
+            assert_eq!(refusal_due(&with_node(9, text)), SHEET_NUMBER, "{text:?}");
+        }
+        for text in ["", "00", "01", "1 ", " 1", "+1", "-0", "1\0", "x"] {
+            assert_eq!(refusal_due(&with_node(9, text)), SHEET_TEXT, "{text:?}");
+        }
+        // Another node's "1" says nothing of it.
+        let both = b"\x05\x01\0\x01\0\x02\0\x01\0\x06\0\x03\0\x07\0\x01\0\x09\0\x01\0w151210";
+        assert_eq!((refusal_due(both), ring(both).slots), (NONE, 32));
     }
 
     #[test]

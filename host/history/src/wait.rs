@@ -1,6 +1,6 @@
 //! How long a port with something to serve has waited for it.
 
-use crate::page::PORTS;
+use crate::places::PORTS;
 
 /// Turns in a row at which a port had something to serve and was not served.
 #[derive(Clone, Debug, Default)]

@@ -2,7 +2,8 @@
 
 use kernelharp::{Backend, Extent, Operation, Plan, Port, Turn};
 
-/// A writable disk of 2,008 sectors, as a node sheet. It has no node protocol: a 64-bit guest's.
+/// A writable disk of 2,008 sectors, as a node sheet. It has neither protocol nor ring-page-order: a
+/// 64-bit guest's, with a ring of one page.
 const SHEET: &[u8] = b"\x03\x01\0\x01\0\x06\0\x03\0\x07\0\x04\0w5122008";
 
 fn main() -> Result<(), Box<dyn std::error::Error>> {
@@ -10,7 +11,7 @@ fn main() -> Result<(), Box<dyn std::error::Error>> {
     let (port, mut disk, mut frame) = (Port::try_from(0)?, vec![7; 2008 * 512], [0; 4096]);
     backend.open(port, SHEET)?;
     backend.grants_mut(port)[5] = 2; // the guest lets us read and write its frame 5
-    post_a_read(backend.page_mut(port)); // the guest's part
+    post_a_read(backend.ring_mut(port)); // the guest's part
     loop {
         match backend.turn() {
             Turn::Idle => break,
@@ -48,9 +49,9 @@ fn carry_out(plan: &Plan, disk: &mut [u8], frame: &mut [u8]) -> i32 {
 }
 
 /// A read of eight sectors from sector 2,000 on into frame 5, as a 64-bit guest writes it.
-fn post_a_read(page: &mut [u8]) {
-    page[64..66].copy_from_slice(&[0, 1]); // read, one segment
-    page[80..88].copy_from_slice(&2000u64.to_le_bytes()); // start
-    page[88..94].copy_from_slice(&[5, 0, 0, 0, 0, 7]); // frame 5, sectors 0 to 7
-    page[0..4].copy_from_slice(&1u32.to_le_bytes()); // req_prod
+fn post_a_read(ring: &mut [u8]) {
+    ring[64..66].copy_from_slice(&[0, 1]); // read, one segment
+    ring[80..88].copy_from_slice(&2000u64.to_le_bytes()); // start
+    ring[88..94].copy_from_slice(&[5, 0, 0, 0, 0, 7]); // frame 5, sectors 0 to 7
+    ring[0..4].copy_from_slice(&1u32.to_le_bytes()); // req_prod
 }

@@ -2,15 +2,17 @@
 
 use crate::answers::{Done, Turn};
 use crate::ffi::{ArchiveMismatch, Completion, Memory, Meter};
-use crate::layout::{page, page_mut, GRANTS_BYTES, PORTS, PORT_GRANTS, RINGS_BYTES, RING_BYTES};
+use crate::layout::{
+    ring, ring_mut, GRANTS_BYTES, PAGE_BYTES, PORTS, PORT_GRANTS, RINGS_BYTES, RING_BYTES,
+};
 use crate::names::{Name, Port};
 use crate::terms::Refusal;
 use crate::words::{turn, DONE_WORDS, TURN_WORDS};
 use std::mem;
 
-/// A backend that owns what its calls are lent: memory, ring pages, grants and the ports' meters.
+/// A backend that owns what its calls are lent: memory, rings, grants and the ports' meters.
 ///
-/// Its pages are private. Where a guest writes its own page at the same time,
+/// Its rings are private. Where a guest writes its own ring at the same time,
 /// [`crate::live::LiveBackend`] copies between the two.
 ///
 /// Each turn and each completion is handed to the meter of its port before it is answered, once, so
@@ -40,7 +42,7 @@ pub struct Backend {
 }
 
 impl Backend {
-    /// Eight closed ports; pages, grants and meters of zeros.
+    /// Eight closed ports; rings, grants and meters of zeros.
     pub fn new() -> Result<Backend, ArchiveMismatch> {
         Ok(Backend {
             memory: Memory::new()?,
@@ -50,15 +52,23 @@ impl Backend {
         })
     }
 
-    /// A port's ring page, [`RING_BYTES`] long.
-    pub fn page(&self, port: Port) -> &[u8; RING_BYTES] {
-        let page = page(&self.rings[..], port.index());
-        page.try_into().expect("a part of that length")
+    /// A port's share of the rings, [`RING_BYTES`] long. The port's ring is at the begin of it, as long as
+    /// its pages are ([`crate::Pages::bytes`]); no call reads or writes what is behind.
+    pub fn ring(&self, port: Port) -> &[u8; RING_BYTES] {
+        let ring = ring(&self.rings[..], port.index());
+        ring.try_into().expect("a part of that length")
     }
 
-    /// A port's ring page, to be written.
-    pub fn page_mut(&mut self, port: Port) -> &mut [u8; RING_BYTES] {
-        let page = page_mut(&mut self.rings[..], port.index());
+    /// The same, to be written.
+    pub fn ring_mut(&mut self, port: Port) -> &mut [u8; RING_BYTES] {
+        let ring = ring_mut(&mut self.rings[..], port.index());
+        ring.try_into().expect("a part of that length")
+    }
+
+    /// The first page of a port's ring, to be written: the whole of a ring of one page, such as a
+    /// [`crate::Guest`] has.
+    pub fn page_mut(&mut self, port: Port) -> &mut [u8; PAGE_BYTES] {
+        let page = &mut self.ring_mut(port)[..PAGE_BYTES];
         page.try_into().expect("a part of that length")
     }
 
@@ -87,9 +97,9 @@ impl Backend {
     /// let mut backend = Backend::new()?;
     /// let port = Port::try_from(0)?;
     /// backend.open(port, b"\x03\x01\0\x01\0\x06\0\x03\0\x07\0\x04\0w5122008")?;
-    /// let page = backend.page_mut(port);
-    /// page[64] = 9; // an operation that nobody knows
-    /// page[0] = 1; // req_prod
+    /// let ring = backend.ring_mut(port);
+    /// ring[64] = 9; // an operation that nobody knows
+    /// ring[0] = 1; // req_prod
     /// assert!(matches!(backend.turn(), Turn::Answered { .. }));
     /// let bill = Meter { taken: 1, not_supported: 1, ..Meter::default() };
     /// assert_eq!(backend.meter(port), bill);
@@ -156,7 +166,7 @@ pub(crate) fn zeros<const BYTES: usize>() -> Box<[u8; BYTES]> {
 mod tests {
     use super::*;
     use crate::answers::Plan;
-    use crate::layout::{write_u32, Abi, REQ_PROD, SLOTS};
+    use crate::layout::{write_u32, Abi, Pages, REQ_PROD};
     use crate::names::Serial;
     use crate::sheet::Sheet;
     use crate::terms::Status;
@@ -181,15 +191,16 @@ mod tests {
             ..Sheet::default()
         };
         backend.open(port, &sheet.bytes()).unwrap();
-        backend.page_mut(port).fill(0);
+        backend.ring_mut(port).fill(0);
     }
 
     /// Publishes a request of no segments, by its index since the opening.
     fn post(backend: &mut Backend, port: Port, index: u32, operation: u8) {
-        let page = backend.page_mut(port);
-        page[Abi::Bits64.slot_at(index)..][..Abi::Bits64.slot_bytes()].fill(0);
-        page[Abi::Bits64.slot_at(index)] = operation;
-        write_u32(page, REQ_PROD, index + 1);
+        let ring = backend.ring_mut(port);
+        let slot = &mut ring[Abi::Bits64.slot_at(Pages::One, index)..][..Abi::Bits64.slot_bytes()];
+        slot.fill(0);
+        slot[0] = operation;
+        write_u32(ring, REQ_PROD, index + 1);
     }
 
     /// Publishes a flush and starts it.
@@ -266,7 +277,7 @@ mod tests {
         let (mut backend, broken) = (Backend::new().unwrap(), port(7));
         open(&mut backend, broken);
         let plan = started(&mut backend, broken, 0);
-        post(&mut backend, broken, SLOTS as u32, FLUSH);
+        post(&mut backend, broken, Pages::One.slots(), FLUSH);
         assert_eq!(backend.turn(), Turn::Overrun(broken));
         assert_eq!(backend.turn(), Turn::Idle);
         assert_eq!(backend.meter(broken), Meter::of([1, 0, 0, 0]));

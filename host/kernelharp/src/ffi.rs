@@ -1,7 +1,7 @@
 //! All that needs `unsafe`: the archive's C functions over backend memory, and the words of a page
 //! that a guest writes at the same time.
 
-use crate::layout::RING_BYTES;
+use crate::layout::PAGE_BYTES;
 use crate::names::Name;
 use crate::words::{CollectWords, DoneWords, PutWords, RequestWords, TurnWords};
 use std::fmt;
@@ -10,9 +10,9 @@ use std::sync::atomic::AtomicU32;
 
 /// The version that this package was built for, as `kh_version` gives it: major x 10,000 + minor x
 /// 100 + patch.
-pub const VERSION: u32 = 700;
+pub const VERSION: u32 = 800;
 /// How many words of backend memory this package was built for (`KH_MEMORY_WORDS`).
-pub const MEMORY_WORDS: usize = 1121;
+pub const MEMORY_WORDS: usize = 2153;
 /// How many words of guest memory this package was built for (`KH_GUEST_WORDS`).
 pub const GUEST_WORDS: usize = 67;
 
@@ -174,14 +174,14 @@ impl Memory {
     /// `kh_turn`
     pub fn turn(&mut self, rings: &mut [u8], grants: &[u8], answer: &mut TurnWords) -> u32 {
         let (memory, answer) = (self.words.as_mut_ptr(), answer.as_mut_ptr());
-        let (pages, pages_bytes) = (rings.as_mut_ptr(), rings.len());
+        let (rings_bytes, rings) = (rings.len(), rings.as_mut_ptr());
         // SAFETY: `memory` as in `open`; each pointer and length are one slice's; the answer has
         // its fixed length; and no two of them overlap, for all that is written is lent by &mut.
         unsafe {
             kh_turn(
                 memory,
-                pages,
-                pages_bytes,
+                rings,
+                rings_bytes,
                 grants.as_ptr(),
                 grants.len(),
                 answer,
@@ -192,7 +192,7 @@ impl Memory {
     /// `kh_complete`
     pub fn complete(&mut self, rings: &mut [u8], named: Completion, answer: &mut DoneWords) -> u32 {
         let (memory, answer) = (self.words.as_mut_ptr(), answer.as_mut_ptr());
-        let (pages, pages_bytes) = (rings.as_mut_ptr(), rings.len());
+        let (rings_bytes, rings) = (rings.len(), rings.as_mut_ptr());
         let Completion {
             port,
             tag,
@@ -203,8 +203,8 @@ impl Memory {
         unsafe {
             kh_complete(
                 memory,
-                pages,
-                pages_bytes,
+                rings,
+                rings_bytes,
                 port,
                 tag,
                 serial,
@@ -321,9 +321,9 @@ impl fmt::Display for Meter {
 /// The bytes of a word of a page.
 pub(crate) const WORD_BYTES: usize = 4;
 /// The words of a page.
-pub const RING_WORDS: usize = RING_BYTES / WORD_BYTES;
+pub const PAGE_WORDS: usize = PAGE_BYTES / WORD_BYTES;
 
-/// A guest's ring page where this program has it mapped: a host the page of a guest, or a guest its own.
+/// A page of a ring where this program has it mapped: a host a guest's, or a guest its own.
 ///
 /// There is never a slice or a reference over the page: it is read and written one aligned word at
 /// a time, volatile, so that no access is doubled, left out or torn.
@@ -351,7 +351,7 @@ impl Mapping {
     }
 
     /// A page of this program's own, whose other side is a thread of it.
-    pub fn of_atomics(page: &'static [AtomicU32; RING_WORDS]) -> Mapping {
+    pub fn of_atomics(page: &'static [AtomicU32; PAGE_WORDS]) -> Mapping {
         // SAFETY: the page is never freed, has as many words and their alignment, and whoever else
         // reaches it does so by atomics, which may be written through shared references.
         unsafe { Mapping::new(NonNull::from(page).cast()) }
@@ -371,7 +371,7 @@ impl Mapping {
 
     fn place(&self, at: usize) -> *mut u32 {
         let word = at / WORD_BYTES;
-        assert!(at % WORD_BYTES == 0 && word < RING_WORDS, "a word at {at}");
+        assert!(at % WORD_BYTES == 0 && word < PAGE_WORDS, "a word at {at}");
         self.page.as_ptr().wrapping_add(word)
     }
 }

@@ -265,7 +265,8 @@ impl Guest {
 mod tests {
     use super::*;
     use crate::layout::{
-        read_u32, read_u64, write_u32, Abi, REQ_EVENT, REQ_PROD, RSP_EVENT, RSP_PROD, SLOTS,
+        read_u32, read_u64, write_u32, Abi, Pages, PAGE_SLOTS, REQ_EVENT, REQ_PROD, RSP_EVENT,
+        RSP_PROD,
     };
 
     const FRAMES: [Segment; 2] = [
@@ -329,7 +330,7 @@ mod tests {
 
     /// A backend's part: the response of an index, and rsp_prod.
     fn answer(page: &mut [u8; GUEST_PAGE_BYTES], index: u32, id: u64, operation: u8, status: u16) {
-        let slot = &mut page[Abi::Bits64.slot_at(index)..][..12];
+        let slot = &mut page[Abi::Bits64.slot_at(Pages::One, index)..][..12];
         slot[..8].copy_from_slice(&id.to_le_bytes());
         slot[8..10].copy_from_slice(&[operation, 0]);
         slot[10..].copy_from_slice(&status.to_le_bytes());
@@ -341,7 +342,7 @@ mod tests {
         for (request, head) in requests() {
             let (mut guest, mut page) = fresh();
             let _ = guest.put(&mut page, &request).unwrap();
-            let slot = &page[Abi::Bits64.slot_at(0)..][..Abi::Bits64.slot_bytes()];
+            let slot = &page[Abi::Bits64.slot_at(Pages::One, 0)..][..Abi::Bits64.slot_bytes()];
             assert_eq!(slot[..8], [head[0], head[1], 0, 0, 0, 0, 0, 0]);
             assert_eq!(read_u64(slot, 8), request.id());
             let (start, rest): (u64, &[u8]) = match head[0] {
@@ -424,7 +425,7 @@ mod tests {
     #[test]
     fn the_other_refusals() {
         let mut both = fresh();
-        for id in 0..SLOTS as u64 {
+        for id in 0..PAGE_SLOTS as u64 {
             let _ = both.0.put(&mut both.1, &read(id)).unwrap();
             if id < 31 {
                 assert_refused(&mut both, read(id), Refusal::IdOutstanding);

@@ -5,15 +5,17 @@
 //!   [`Plan`], [`Done`]) and refusals as errors ([`Refusal`]).
 //!   Each port has its [`Meter`], which the calls raise ([`Backend::meter`], [`Backend::take_meter`]).
 //! - [`Guest`]: the guest's half, for guest images: it puts a [`Request`] and collects a [`Response`].
-//! - [`live`]: backend and guest over ring pages that the other side may write at the same time.
-//! - [`Sheet`]: node sheets from a disk's properties and its guest's layout ([`Abi`]).
+//! - [`live`]: backend and guest over rings that the other side may write at the same time.
+//! - [`Sheet`]: node sheets from a disk's properties, its guest's layout ([`Abi`]) and the pages of its
+//!   ring ([`Pages`]).
 //! - [`Memory`]: the C functions over slices of any length, for tests and for hosts with buffers of
 //!   their own; its answers are words, which [`words`] names, and such a host hands them to its
 //!   [`Meter`]s itself. [`GuestMemory`]: the same of the guest's half.
-//! - [`layout`]: sizes and places of buffers, pages and slots, the latter by [`Abi`].
+//! - [`layout`]: sizes and places of buffers, rings and slots, the latter by [`Abi`] and [`Pages`].
 //!
-//! A guest has 64-bit or 32-bit records; each port is opened for one of the two, and one backend serves
-//! ports of both. A host meets the layout in the sheet alone, unless it reads or writes slots itself.
+//! A guest has 64-bit or 32-bit records, and a ring of one page or of two. Each port is opened for one of
+//! the four kinds, and one backend serves ports of all. A host meets layout and pages in the sheet alone,
+//! unless it maps rings, or reads or writes slots itself. [`Guest`] has 64-bit records and one page.
 //!
 //! What is numbered here goes by the same names as in the C header: [`Refusal`], [`Reason`],
 //! [`Status`], [`Operation`]. Enums that may grow are `non_exhaustive`: a host says what it does
@@ -41,7 +43,7 @@ pub use ffi::{
     ArchiveMismatch, Completion, GuestMemory, Memory, Meter, GUEST_WORDS, MEMORY_WORDS, VERSION,
 };
 pub use guest::{Guest, Request, Response, Segment};
-pub use layout::Abi;
+pub use layout::{Abi, Pages};
 pub use names::{Name, Port, Serial, Tag};
 pub use sheet::Sheet;
 pub use terms::{Operation, Reason, Refusal, Status};

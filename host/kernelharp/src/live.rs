@@ -1,14 +1,14 @@
-//! Ring pages that the other side may write at the same time.
+//! Rings that the other side may write at the same time.
 //!
-//! The calls see buffers that nobody else writes. So a live page is never lent: before a call what
-//! the call reads is copied in, to a private page, and after it what the call wrote is copied out,
-//! never more, for that would undo what the other side wrote meanwhile. [`Mapping`] is such a page
-//! where it is mapped. The proof speaks of the calls over the private page; the copies, fences and
+//! The calls see buffers that nobody else writes. So a live ring is never lent: before a call what
+//! the call reads is copied in, to a private ring, and after it what the call wrote is copied out,
+//! never more, for that would undo what the other side wrote meanwhile. [`Mapping`] is a page of such a
+//! ring where it is mapped. The proof speaks of the calls over the private ring; the copies, fences and
 //! second looks are ordinary code, which is tested.
 //!
-//! For hosts: [`SharedPage`] is the page with what the host counts of its port, [`LiveBackend`] a
+//! For hosts: [`SharedRing`] is the ring with what the host counts of its port, [`LiveBackend`] a
 //! [`crate::Backend`] over up to eight of them, with the fences and second looks that ring.h's macros
-//! have and a call over private pages cannot:
+//! have and a call over private rings cannot:
 //!
 //! | when | what is done |
 //! |---|---|
@@ -17,11 +17,13 @@
 //! | after a response | its 16 or 12 bytes out, a write fence, rsp_prod out, a full fence, rsp_event once more |
 //! | after an idle turn | req_event out, a full fence, one more turn |
 //!
-//! Where a request lies and how long a response is goes by the port's layout ([`crate::Abi`]), which
-//! [`LiveBackend::open`] takes from the sheet.
+//! Where a request lies and how long a response is goes by the port's layout ([`crate::Abi`]) and its
+//! pages ([`crate::Pages`]), which [`LiveBackend::open`] takes from the sheet. Two pages are mapped each
+//! by itself: a guest grants them one by one, and they need not follow each other in memory. A record of
+//! a 32-bit guest can begin in the one and end in the other.
 //!
-//! For guests, of the 64-bit layout: [`OwnPage`] is the guest's page with what it counts itself,
-//! [`LiveGuest`] a [`crate::Guest`] over it:
+//! For guests, of the 64-bit layout and with one page: [`OwnPage`] is the guest's page with what it
+//! counts itself, [`LiveGuest`] a [`crate::Guest`] over it:
 //!
 //! | when | what is done |
 //! |---|---|
@@ -34,12 +36,12 @@ mod backend;
 mod copy;
 mod guest;
 mod own;
-mod page;
+mod ring;
 #[cfg(test)]
 mod tests;
 
-pub use crate::ffi::{Mapping, RING_WORDS};
-pub use backend::LiveBackend;
+pub use crate::ffi::{Mapping, PAGE_WORDS};
+pub use backend::{LiveBackend, NotOpened};
 pub use guest::LiveGuest;
 pub use own::OwnPage;
-pub use page::SharedPage;
+pub use ring::SharedRing;

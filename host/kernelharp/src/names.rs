@@ -41,7 +41,8 @@ impl fmt::Display for Port {
     }
 }
 
-/// The number under which a port keeps a started request, 0 to 31; free again once it is completed.
+/// The number under which a port keeps a started request, below its ring's slots
+/// ([`crate::Pages::slots`]); free again once it is completed.
 #[derive(Clone, Copy, Debug, PartialEq, Eq, Hash, PartialOrd, Ord)]
 pub struct Tag(pub u32);
 

@@ -1,6 +1,6 @@
 //! Node sheets written from a disk's properties.
 
-use crate::layout::Abi;
+use crate::layout::{Abi, Pages, PROTOCOL, RING_PAGE_ORDER};
 
 /// What a port is opened with: the properties of its guest's disk.
 ///
@@ -28,10 +28,13 @@ pub struct Sheet {
     pub sectors: u64,
     /// Node protocol: how the guest lays out its requests, as its front end says.
     pub abi: Abi,
+    /// Node ring-page-order: how many pages the guest's ring has, as its front end says.
+    pub pages: Pages,
 }
 
 impl Sheet {
-    /// The bytes for `open`. A feature that is off has no node, nor has the 64-bit layout.
+    /// The bytes for `open`. A feature that is off has no node, nor has the 64-bit layout or a ring of
+    /// one page.
     pub fn bytes(&self) -> Vec<u8> {
         let mode = if self.writable { "w" } else { "r" };
         let mut entries = vec![(1, mode.to_string())];
@@ -44,7 +47,10 @@ impl Sheet {
         entries.push((6, self.sector_size.to_string()));
         entries.push((7, self.sectors.to_string()));
         if self.abi != Abi::default() {
-            entries.push((8, self.abi.protocol().to_string()));
+            entries.push((PROTOCOL, self.abi.protocol().to_string()));
+        }
+        if self.pages != Pages::default() {
+            entries.push((RING_PAGE_ORDER, self.pages.order().to_string()));
         }
         contents(&entries)
             .chain(entries.iter().flat_map(|(_, body)| body.bytes()))
@@ -66,20 +72,39 @@ mod tests {
     use super::*;
 
     #[test]
-    fn a_sheet_says_its_layout() {
-        let due: [&[u8]; 2] = [
-            b"\x03\x01\0\x01\0\x06\0\x03\0\x07\0\x04\0r5122008",
-            b"\x04\x01\0\x01\0\x06\0\x03\0\x07\0\x04\0\x08\0\x0A\0r5122008x86_32-abi",
+    fn a_sheet_says_its_layout_and_its_pages() {
+        let due: [(Abi, Pages, &[u8]); 4] = [
+            (
+                Abi::Bits64,
+                Pages::One,
+                b"\x03\x01\0\x01\0\x06\0\x03\0\x07\0\x04\0r5122008",
+            ),
+            (
+                Abi::Bits32,
+                Pages::One,
+                b"\x04\x01\0\x01\0\x06\0\x03\0\x07\0\x04\0\x08\0\x0A\0r5122008x86_32-abi",
+            ),
+            (
+                Abi::Bits64,
+                Pages::Two,
+                b"\x04\x01\0\x01\0\x06\0\x03\0\x07\0\x04\0\x09\0\x01\0r51220081",
+            ),
+            (
+                Abi::Bits32,
+                Pages::Two,
+                b"\x05\x01\0\x01\0\x06\0\x03\0\x07\0\x04\0\x08\0\x0A\0\x09\0\x01\0r5122008x86_32-abi1",
+            ),
         ];
-        for (abi, due) in Abi::ALL.into_iter().zip(due) {
+        for (abi, pages, due) in due {
             let sheet = Sheet {
                 sector_size: 512,
                 sectors: 2008,
                 abi,
+                pages,
                 ..Sheet::default()
             };
             assert_eq!(sheet.bytes(), due);
-            assert_eq!(Abi::of_sheet(due), abi);
+            assert_eq!((Abi::of_sheet(due), Pages::of_sheet(due)), (abi, pages));
         }
     }
 }

@@ -2,7 +2,7 @@
 
 use crate::answers::{Done, Turned};
 use crate::layout::{
-    check_length, page, page_mut, write_u32, GRANTS_BYTES, PORTS, PORT_GRANTS, REQ_EVENT,
+    check_length, share, share_mut, write_u32, GRANTS_BYTES, PORTS, PORT_GRANTS, REQ_EVENT,
     RINGS_BYTES,
 };
 use crate::ring::Backlog;
@@ -45,7 +45,7 @@ impl Backend {
         Backend::default()
     }
 
-    /// Opens a port from a node sheet: refusals 2, 3, then the sheet's. No page is touched.
+    /// Opens a port from a node sheet: refusals 2, 3, then the sheet's. No ring is touched.
     pub fn open(&mut self, port: u32, sheet: &[u8]) -> Result<(), Refusal> {
         let port = self.port_mut(port)?;
         if *port != Port::Closed {
@@ -86,7 +86,7 @@ impl Backend {
             unreachable!("only open ports are served")
         };
         let port_grants = &grants[PORT_GRANTS * port..][..PORT_GRANTS];
-        Ok(session.serve(port as u32, page_mut(rings, port), port_grants))
+        Ok(session.serve(port as u32, share_mut(rings, port), port_grants))
     }
 
     /// Completes a started request: refusals 1, 2, 4, 6.
@@ -98,13 +98,22 @@ impl Backend {
         };
         let started = session.release(named.tag, named.serial)?;
         let status = started.status(named.result);
-        let page = page_mut(rings, named.port as usize);
-        let notify = session.respond(page, started.id, started.operation as u8, status);
+        let ring = share_mut(rings, named.port as usize);
+        let notify = session.respond(ring, started.id, started.operation as u8, status);
         Ok(Done {
             port: named.port,
             status,
             notify,
         })
+    }
+
+    /// No call: a port just opened as it is after so many requests that were taken and answered. To come
+    /// to high indices by calls would take too long.
+    pub fn skip(&mut self, port: usize, requests: u32) {
+        if let Port::Open(session) = &mut self.ports[port] {
+            session.taken = session.taken.wrapping_add(requests);
+            session.answered = session.answered.wrapping_add(requests);
+        }
     }
 
     /// Refusal 2.
@@ -120,7 +129,7 @@ impl Backend {
                 let Port::Open(session) = &self.ports[port] else {
                     return None;
                 };
-                match session.backlog(page(rings, port)) {
+                match session.backlog(share(rings, port)) {
                     Backlog::Nothing => None,
                     backlog => Some((port, backlog)),
                 }
@@ -132,7 +141,7 @@ impl Backend {
         for (number, port) in self.ports.iter().enumerate() {
             if let Port::Open(session) = port {
                 let event = session.taken.wrapping_add(1);
-                write_u32(page_mut(rings, number), REQ_EVENT, event);
+                write_u32(share_mut(rings, number), REQ_EVENT, event);
             }
         }
     }

@@ -1,8 +1,8 @@
 //! The guest's half (section 16): a front end over one page of the 64-bit layout. It knows no backend.
 
 use crate::layout::{
-    check_length, read_u32, read_u64, write_u32, Layout, EXTENTS, REQ_EVENT, REQ_PROD, RING_BYTES,
-    RSP_EVENT, RSP_PROD, SLOTS,
+    check_length, read_u32, read_u64, write_u32, Layout, EXTENTS, ONE_PAGE_SLOTS, PAGE_BYTES,
+    REQ_EVENT, REQ_PROD, RSP_EVENT, RSP_PROD,
 };
 use crate::terms::{Operation, Refusal};
 
@@ -52,8 +52,8 @@ impl Guest {
 
     /// Puts a request: refusals 1, 31, 32, 33. Says whether to notify the backend.
     pub fn put(&mut self, page: &mut [u8], request: &RequestWords) -> Result<bool, Refusal> {
-        check_length(page, RING_BYTES)?;
-        if self.outstanding.len() == SLOTS {
+        check_length(page, PAGE_BYTES)?;
+        if self.outstanding.len() == ONE_PAGE_SLOTS as usize {
             return Err(Refusal::RingFull);
         }
         let id = request[ID];
@@ -61,7 +61,7 @@ impl Guest {
             return Err(Refusal::IdOutstanding);
         }
         let slot = slot_of(request).ok_or(Refusal::BadRequest)?;
-        page[LAYOUT.slot_at(self.put)..][..SLOT_BYTES].copy_from_slice(&slot);
+        page[slot_at(self.put)..][..SLOT_BYTES].copy_from_slice(&slot);
         self.outstanding.push((id, slot[0]));
         self.put = self.put.wrapping_add(1);
         write_u32(page, REQ_PROD, self.put);
@@ -70,7 +70,7 @@ impl Guest {
 
     /// Collects a response: refusals 1, 34, 35. Where there is none, asks to be notified of the next.
     pub fn collect(&mut self, page: &mut [u8]) -> Result<Option<Collected>, Refusal> {
-        check_length(page, RING_BYTES)?;
+        check_length(page, PAGE_BYTES)?;
         let ahead = read_u32(page, RSP_PROD).wrapping_sub(self.collected);
         if ahead == 0 {
             write_u32(page, RSP_EVENT, self.collected.wrapping_add(1));
@@ -79,7 +79,7 @@ impl Guest {
         if ahead as usize > self.outstanding.len() {
             return Err(Refusal::BadRspProd);
         }
-        let response = response_at(page, LAYOUT.slot_at(self.collected));
+        let response = response_at(page, slot_at(self.collected));
         let pair = (response.id, response.operation);
         let place = self.outstanding.iter().position(|&known| known == pair);
         self.outstanding
@@ -87,6 +87,11 @@ impl Guest {
         self.collected = self.collected.wrapping_add(1);
         Ok(Some(response))
     }
+}
+
+/// Where the slot of an index begins.
+fn slot_at(index: u32) -> usize {
+    LAYOUT.slot_at(ONE_PAGE_SLOTS, index)
 }
 
 /// Rule 2.10, read and not judged.

@@ -4,9 +4,11 @@ use crate::terms::Refusal;
 
 /// Rule 1.1.
 pub const PORTS: usize = 8;
+/// A page: a guest's half has one for its ring (rule 16.1).
+pub const PAGE_BYTES: usize = 4096;
 /// Rule 1.3: a port's share of the rings, and all of them.
-pub const RING_BYTES: usize = 4096;
-pub const RINGS_BYTES: usize = 32_768;
+pub const SHARE_BYTES: usize = 8192;
+pub const RINGS_BYTES: usize = 65_536;
 /// Rule 1.4: a port's share of the grants, and all of them.
 pub const PORT_GRANTS: usize = 1024;
 pub const GRANTS_BYTES: usize = 8192;
@@ -17,8 +19,9 @@ pub const REQ_EVENT: usize = 4;
 pub const RSP_PROD: usize = 8;
 pub const RSP_EVENT: usize = 12;
 
-/// Rule 2.3; a port has as many tags (rule 4.7).
-pub const SLOTS: usize = 32;
+/// Rule 2.3: the slots of a ring of one page, and of one of two.
+pub const ONE_PAGE_SLOTS: u32 = 32;
+pub const TWO_PAGE_SLOTS: u32 = 64;
 /// Rule 2.16.
 pub const EXTENTS: usize = 11;
 
@@ -54,20 +57,20 @@ impl Layout {
         response_bytes: 12,
     };
 
-    /// Rule 2.4.
-    pub(crate) fn slot_at(&self, index: u32) -> usize {
-        64 + self.slot_bytes * (index as usize % SLOTS)
+    /// Rule 2.4, in a ring of so many slots.
+    pub(crate) fn slot_at(&self, slots: u32, index: u32) -> usize {
+        64 + self.slot_bytes * (index % slots) as usize
     }
 }
 
-/// Rule 1.3.
-pub fn page(rings: &[u8], port: usize) -> &[u8] {
-    &rings[RING_BYTES * port..RING_BYTES * (port + 1)]
+/// Rule 1.3. The ring of the port is the begin of it; the rest is for nobody.
+pub fn share(rings: &[u8], port: usize) -> &[u8] {
+    &rings[SHARE_BYTES * port..SHARE_BYTES * (port + 1)]
 }
 
 /// Rule 1.3.
-pub fn page_mut(rings: &mut [u8], port: usize) -> &mut [u8] {
-    &mut rings[RING_BYTES * port..RING_BYTES * (port + 1)]
+pub fn share_mut(rings: &mut [u8], port: usize) -> &mut [u8] {
+    &mut rings[SHARE_BYTES * port..SHARE_BYTES * (port + 1)]
 }
 
 /// Refusal 1.

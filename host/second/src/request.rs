@@ -35,7 +35,7 @@ impl Segment {
     }
 }
 
-/// The bytes of a slot, taken out of the page once.
+/// The bytes of a slot, taken out of the ring once.
 pub struct Request {
     pub operation: u8,
     /// n, or a discard's flag.
@@ -47,9 +47,9 @@ pub struct Request {
 }
 
 impl Request {
-    /// Rule 1.8: the slot is copied, and from then on the copy is read.
-    pub fn take(page: &[u8], layout: &Layout, index: u32) -> Request {
-        let slot = page[layout.slot_at(index)..][..layout.slot_bytes].to_vec();
+    /// Rule 1.8: the slot that begins there is copied, and from then on the copy is read.
+    pub fn take(ring: &[u8], layout: &Layout, at: usize) -> Request {
+        let slot = ring[at..][..layout.slot_bytes].to_vec();
         let mut body = [0; 8 * EXTENTS];
         body.copy_from_slice(&slot[layout.body..]);
         Request {

@@ -1,7 +1,6 @@
-//! What a ring page says and is told: the backlog of a port (rules 4.11 and 4.12), responses (rules 6.1
+//! What a ring says and is told: the backlog of a port (rules 4.11 and 4.12), responses (rules 6.1
 //! to 6.5).
 
-use crate::layout::SLOTS;
 use crate::terms::Status;
 
 /// What a port's req_prod says.
@@ -15,12 +14,12 @@ pub enum Backlog {
     Overrun,
 }
 
-/// Rules 4.11 and 4.12, by the distance of req_prod from C.
-pub fn backlog(req_prod: u32, taken: u32, in_flight: u32) -> Backlog {
+/// Rules 4.11 and 4.12, by the distance of req_prod from C, in a ring of so many slots.
+pub fn backlog(slots: u32, req_prod: u32, taken: u32, in_flight: u32) -> Backlog {
     let distance = req_prod.wrapping_sub(taken);
     if distance == 0 {
         Backlog::Nothing
-    } else if distance <= SLOTS as u32 - in_flight {
+    } else if distance <= slots - in_flight {
         Backlog::Waits
     } else {
         Backlog::Overrun

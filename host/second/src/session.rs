@@ -2,7 +2,7 @@
 
 use crate::answers::{Plan, Turned};
 use crate::checks::{judge, Work};
-use crate::layout::{read_u32, write_u32, REQ_PROD, RSP_EVENT, RSP_PROD, SLOTS};
+use crate::layout::{read_u32, write_u32, REQ_PROD, RSP_EVENT, RSP_PROD};
 use crate::request::Request;
 use crate::ring::{backlog, response_bytes, Backlog};
 use crate::sheet::Disk;
@@ -48,18 +48,19 @@ pub struct Session {
     pub taken: u32,
     /// R, responses given.
     pub answered: u32,
-    /// The tags; a free one is `None`.
-    tags: [Option<Started>; SLOTS],
+    /// The tags, as many as the ring has slots; a free one is `None`.
+    tags: Vec<Option<Started>>,
 }
 
 impl Session {
     /// Rules 4.2 and 4.3: a port just opened.
     pub fn new(disk: Disk) -> Session {
+        let tags = (0..disk.slots).map(|_| None).collect();
         Session {
             disk,
             taken: 0,
             answered: 0,
-            tags: [const { None }; SLOTS],
+            tags,
         }
     }
 
@@ -68,20 +69,26 @@ impl Session {
         self.tags.iter().flatten().count() as u32
     }
 
-    pub fn backlog(&self, page: &[u8]) -> Backlog {
-        backlog(read_u32(page, REQ_PROD), self.taken, self.in_flight())
+    pub fn backlog(&self, ring: &[u8]) -> Backlog {
+        let (req_prod, in_flight) = (read_u32(ring, REQ_PROD), self.in_flight());
+        backlog(self.disk.slots, req_prod, self.taken, in_flight)
+    }
+
+    /// Where the slot of an index begins.
+    fn slot_at(&self, index: u32) -> usize {
+        self.disk.layout.slot_at(self.disk.slots, index)
     }
 
     /// Rules 5.15 to 5.19: a request is taken and judged.
-    pub fn serve(&mut self, port: u32, page: &mut [u8], grants: &[u8]) -> Turned {
-        let request = Request::take(page, &self.disk.layout, self.taken);
+    pub fn serve(&mut self, port: u32, ring: &mut [u8], grants: &[u8]) -> Turned {
+        let request = Request::take(ring, &self.disk.layout, self.slot_at(self.taken));
         let serial = self.taken;
         self.taken = serial.wrapping_add(1);
         match judge(&request, &self.disk, grants) {
             Ok(work) => Turned::Started(self.start(port, serial, request.id, work)),
             Err(reason) => {
                 let status = reason.status();
-                let notify = self.respond(page, request.id, request.operation, status);
+                let notify = self.respond(ring, request.id, request.operation, status);
                 Turned::Answered {
                     port,
                     reason,
@@ -98,7 +105,7 @@ impl Session {
             .tags
             .iter()
             .position(Option::is_none)
-            .expect("a request waits only while fewer than 32 are in flight");
+            .expect("a request waits only while there is a free tag");
         self.tags[tag] = Some(Started {
             id,
             operation: work.operation,
@@ -118,13 +125,12 @@ impl Session {
     }
 
     /// Rules 6.1 to 6.5: the response in its slot, rsp_prod, and whether to notify.
-    pub fn respond(&mut self, page: &mut [u8], id: u64, operation: u8, status: Status) -> bool {
-        let layout = &self.disk.layout;
-        let response = &response_bytes(id, operation, status)[..layout.response_bytes];
-        page[layout.slot_at(self.answered)..][..response.len()].copy_from_slice(response);
+    pub fn respond(&mut self, ring: &mut [u8], id: u64, operation: u8, status: Status) -> bool {
+        let response = &response_bytes(id, operation, status)[..self.disk.layout.response_bytes];
+        ring[self.slot_at(self.answered)..][..response.len()].copy_from_slice(response);
         self.answered = self.answered.wrapping_add(1);
-        write_u32(page, RSP_PROD, self.answered);
-        read_u32(page, RSP_EVENT) == self.answered
+        write_u32(ring, RSP_PROD, self.answered);
+        read_u32(ring, RSP_EVENT) == self.answered
     }
 
     /// Refusal 6, or the tag's request, whose tag is free from now on.

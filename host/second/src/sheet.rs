@@ -1,6 +1,6 @@
 //! Node sheets (section 3): what a sheet says of a disk, or its refusal.
 
-use crate::layout::Layout;
+use crate::layout::{Layout, ONE_PAGE_SLOTS, TWO_PAGE_SLOTS};
 use crate::terms::{Operation, Refusal};
 
 /// What a node sheet says about a port's disk.
@@ -20,8 +20,10 @@ pub struct Disk {
     pub sector_size: u64,
     /// sectors, of 512 bytes each
     pub sectors: u64,
-    /// protocol: how the guest's records lie in its page
+    /// protocol: how the guest's records lie in its ring
     pub layout: Layout,
+    /// ring-page-order: how many slots the ring has, and so many tags the port
+    pub slots: u32,
 }
 
 impl Disk {
@@ -89,7 +91,7 @@ fn nodes_rise(entries: &[Entry]) -> bool {
 fn read_bodies(entries: &[Entry]) -> Result<Disk, Refusal> {
     let (mut mode, mut sector_size, mut sectors) = (None, None, None);
     let (mut barrier, mut flush, mut discard, mut secure) = (false, false, false, false);
-    let mut layout = Layout::BITS_64;
+    let (mut layout, mut slots) = (Layout::BITS_64, ONE_PAGE_SLOTS);
     for entry in entries {
         match entry.node {
             1 => mode = Some(read_choice(entry.body, b"r", b"w")?),
@@ -100,7 +102,7 @@ fn read_bodies(entries: &[Entry]) -> Result<Disk, Refusal> {
             6 => sector_size = Some(read_sector_size(entry.body)?),
             7 => sectors = Some(read_number(entry.body)?.ok_or(Refusal::SheetNumber)?),
             8 => layout = read_protocol(entry.body)?,
-            _ => read_ring_page_order(entry.body)?,
+            _ => slots = read_ring_page_order(entry.body)?,
         }
     }
     Ok(Disk {
@@ -112,6 +114,7 @@ fn read_bodies(entries: &[Entry]) -> Result<Disk, Refusal> {
         sector_size: sector_size.ok_or(Refusal::SheetMissing)?,
         sectors: sectors.ok_or(Refusal::SheetMissing)?,
         layout,
+        slots,
     })
 }
 
@@ -143,10 +146,11 @@ fn read_protocol(body: &[u8]) -> Result<Layout, Refusal> {
     }
 }
 
-/// Node 9: the number 0 alone.
-fn read_ring_page_order(body: &[u8]) -> Result<(), Refusal> {
+/// Node 9: one page or two, by their number's logarithm.
+fn read_ring_page_order(body: &[u8]) -> Result<u32, Refusal> {
     match read_number(body)? {
-        Some(0) => Ok(()),
+        Some(0) => Ok(ONE_PAGE_SLOTS),
+        Some(1) => Ok(TWO_PAGE_SLOTS),
         _ => Err(Refusal::SheetNumber),
     }
 }

@@ -1,4 +1,4 @@
--- `nodes::params_of` meets its contract: the fields are the definition's, and the sector size and the layout are what their functions say. Assumes nothing.
+-- `nodes::params_of` meets its contract: the fields are the definition's, and the sector size, the layout and the pages are what their functions say. Assumes nothing.
 use borrow.Author.Needs.{needs}
 use Rattle.model.specs.NodeSheet.{paramsOf}
 use Rattle.nodes.proofs.params_of.Statement.{statement}
@@ -34,9 +34,15 @@ array-read-abi-for c = search needs
 abi-for-requires : tie.Need-abi-for-requires
 abi-for-requires c κs = search needs
 
+array-read-pages-for : tie.Need-array-read-pages-for
+array-read-pages-for c = search needs
+
+pages-for-requires : tie.Need-pages-for-requires
+pages-for-requires c κs = search needs
+
 returns : tie.Need-returns
 unfolding paramsOf
-returns c = rw (c .before .sector-size .ensures, c .abi-for .ensures)
+returns c = rw (c .before .before .sector-size .ensures, c .before .abi-for .ensures, c .pages-for .ensures)
 
 pub params-of-spec : {M : Type 1} → statement M
 params-of-spec =
@@ -52,4 +58,6 @@ params-of-spec =
     array-read-t29
     array-read-abi-for
     abi-for-requires
+    array-read-pages-for
+    pages-for-requires
     returns)

@@ -234,7 +234,7 @@ impl Census {
         let Some(disk) = &books.disk else {
             return;
         };
-        let (abi, size, reason) = (books.abi, disk.sector_size, answer[turn::REASON]);
+        let (abi, size, reason) = (books.ring.abi, disk.sector_size, answer[turn::REASON]);
         let case = Case::new(abi, disk, slot, grants);
         for (reasons, operations, sizes, what, holds) in CLASSES {
             let among = reasons.contains(&reason)

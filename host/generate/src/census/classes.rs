@@ -3,10 +3,14 @@
 use super::boundaries::boundary_classes;
 use super::discards::{discard_classes, DISCARD_REASONS};
 use super::meters::{meter_classes, port_meter_classes};
-use super::sheets::{body_class, opened_by, protocol_fault, NUMBER, TEXT};
-use super::{class_of, reopened_class, served_after_class, LENGTHS};
-use crate::sheets::NEAR_PROTOCOLS;
-use kernelharp::layout::Abi;
+use super::rings::ring_classes;
+use super::sheets::{
+    body_class, opened_by, opened_with, text_fault, NUMBER, ORDER, PROTOCOL, TEXT,
+};
+use super::{class_of, LENGTHS};
+use crate::sheets::{NEAR_PROTOCOLS, NO_ORDERS, OTHER_ORDERS};
+use crate::Ring;
+use kernelharp::layout::{Abi, Pages};
 
 /// The reasons that each operation can meet.
 const REASONS: [(u8, &[u64]); 5] = [
@@ -39,13 +43,21 @@ pub fn expected_classes() -> Vec<String> {
     }
     classes.extend((1..=9).map(|node| body_class(TEXT, node)));
     classes.extend([6, 7, 9].map(|node| body_class(NUMBER, node)));
-    classes.extend(NEAR_PROTOCOLS.map(protocol_fault));
+    classes.extend(NEAR_PROTOCOLS.map(|text| text_fault(TEXT, PROTOCOL, text)));
+    classes.extend(NO_ORDERS.map(|text| text_fault(TEXT, ORDER, text)));
+    classes.extend(OTHER_ORDERS.map(|text| text_fault(NUMBER, ORDER, text)));
     classes.push(opened_by(None));
+    classes.push(opened_with(None));
+    classes.extend(Pages::ALL.map(|pages| opened_with(Some(pages.order()))));
     classes.extend(meter_classes());
     for abi in Abi::ALL {
         classes.push(opened_by(Some(abi.protocol())));
         let port_classes = port_classes();
         classes.extend(port_classes.iter().map(|class| class_of(abi, class)));
+    }
+    for ring in Ring::ALL {
+        let ring_classes = ring_classes(ring);
+        classes.extend(ring_classes.iter().map(|class| class_of(ring, class)));
     }
     classes
 }
@@ -62,8 +74,6 @@ fn port_classes() -> Vec<String> {
     }
     let reasons = [21, 22, 24, 25, 26, 27, 28, 29];
     classes.extend(reasons.map(|reason| format!("answered {reason}")));
-    classes.extend(Abi::ALL.map(reopened_class));
-    classes.extend(Abi::ALL.map(served_after_class));
     classes.extend(port_meter_classes());
     classes.extend(boundary_classes());
     classes.extend(discard_classes());
@@ -74,6 +84,7 @@ const PLAIN_CLASSES: &[&str] = &[
     "close done",
     "close done, broken port",
     "complete refused 01, port above 7 too",
+    "complete refused 01, rings of one page each",
     "guest wrote between calls",
     "guest wrote req_event",
     "guest wrote rsp_prod",
@@ -121,7 +132,8 @@ const PLAIN_CLASSES: &[&str] = &[
     "sheet without node 7",
     "turn refused 01",
     "turn refused 01, rings and grants",
-    "turn with ports of both layouts open",
+    "turn refused 01, rings of one page each",
+    "turn with ports of every ring open",
 ];
 
 const PORT_CLASSES: &[&str] = &[
@@ -134,42 +146,10 @@ const PORT_CLASSES: &[&str] = &[
     "answered, notify yes",
     "answered, status -1",
     "answered, status -2",
-    "complete refused 06, another serial",
-    "complete refused 06, doubled",
-    "complete refused 06, of an earlier opening",
-    "complete refused 06, tag above 31",
-    "complete refused 06, tag not busy",
-    "completed",
-    "completed, broken port",
-    "completed, named in an earlier opening too",
-    "completed, notify no",
-    "completed, notify yes",
-    "completed, slot 31",
-    "completed, status -0",
-    "completed, status -1",
-    "completed, status -2",
-    "guest wrote at a slot of the other layout",
-    "guest wrote behind the last slot",
-    "guest wrote over a slot in flight",
-    "guest wrote over a waiting request",
-    "idle, 32 in flight",
-    "overrun",
-    "overrun, 32 in flight",
-    "overrun, behind",
-    "overrun, by one",
-    "overrun, far ahead",
-    "overrun, some in flight",
-    "served at the line",
-    "served beyond request 1000",
-    "served beyond slot 31",
-    "served from slot 31",
-    "served with 31 in flight",
     "started",
     "started, 11 extents",
     "started, discard above 2^32 sectors",
     "started, empty barrier",
     "started, frame 1023",
-    "started, tag 31",
-    "started, tag come back",
     "started, up to the last sector",
 ];

@@ -64,7 +64,7 @@ impl Census {
         let Some(disk) = &books.disk else {
             return;
         };
-        let (abi, secure, reason) = (books.abi, disk.secure, answer[turn::REASON]);
+        let (abi, secure, reason) = (books.ring.abi, disk.secure, answer[turn::REASON]);
         let (operation, flag_or_n) = (slot[0], slot[1]);
         let end = end_of(reason, answer[turn::SECURE] == 1);
         if operation == DISCARD {

@@ -212,7 +212,7 @@ impl Census {
             self.tick(&class);
             return self.tick(no_port_class(history.state(port)));
         }
-        let abi = self.books[port].abi;
+        let abi = self.books[port].ring.abi;
         self.tick_of(abi, &class);
         let broken = before != after && history.state(port) == State::Broken;
         self.tick_of_if(abi, broken, "record raised on a broken port");
@@ -228,7 +228,7 @@ impl Census {
     pub(super) fn note_zeroing(&mut self, history: &History, port: usize) {
         self.tick(zeroed_class(history.state(port)));
         let in_flight = history.unfinished(port) > 0;
-        let abi = self.books[port].abi;
+        let abi = self.books[port].ring.abi;
         self.tick_of_if(abi, in_flight, "record zeroed, requests in flight");
     }
 

@@ -1,8 +1,8 @@
-//! A closer word on sheets: why one was refused, and of one that opened a port, by which text its layout
-//! was chosen and how long its sectors' number is. A reader of numbers may take eight digits a step, so
-//! lengths and places are told apart by eights.
+//! A closer word on sheets: why one was refused, and of one that opened a port, by which texts its layout
+//! and its pages were chosen and how long its sectors' number is. A reader of numbers may take eight digits
+//! a step, so lengths and places are told apart by eights.
 
-use crate::sheets::NEAR_PROTOCOLS;
+use crate::sheets::{NEAR_PROTOCOLS, NO_ORDERS, OTHER_ORDERS};
 use second::{read_sheet, Refusal};
 
 const SHAPE: u32 = Refusal::SheetShape as u32;
@@ -15,7 +15,10 @@ const MISSING: u32 = Refusal::SheetMissing as u32;
 const SECTORS: u8 = 7;
 
 /// The node of the protocol.
-const PROTOCOL: u8 = 8;
+pub const PROTOCOL: u8 = 8;
+
+/// The node of the ring's page order.
+pub const ORDER: u8 = 9;
 
 /// A number of more digits is above 2^64 - 1.
 const MOST_DIGITS: usize = 20;
@@ -88,7 +91,7 @@ fn shape_fault(sheet: &[u8]) -> &'static str {
 }
 
 /// Which body a sheet was refused for: the first that is refused so in a sheet of its own. Of the
-/// sectors, also for what in their text, and of the protocol, by which text.
+/// sectors, also for what in their text, and of the protocol and the page order, by which text.
 fn body_faults(sheet: &[u8], code: u32) -> Vec<String> {
     let at_fault = |(line, body): &(&[u8], &[u8])| {
         let alone = [&[1], *line, *body].concat();
@@ -97,13 +100,18 @@ fn body_faults(sheet: &[u8], code: u32) -> Vec<String> {
     let Some((line, body)) = entries(sheet).find(at_fault) else {
         return Vec::new();
     };
-    let near = NEAR_PROTOCOLS.into_iter().filter(|text| {
-        // Any other text is noise, and of no class.
-        line[0] == PROTOCOL && text.as_bytes() == body
-    });
+    let texts: &[&str] = match (line[0], code) {
+        (PROTOCOL, _) => &NEAR_PROTOCOLS,
+        (ORDER, TEXT) => &NO_ORDERS,
+        (ORDER, _) => &OTHER_ORDERS,
+        _ => &[],
+    };
+    // Any other text is noise, and of no class.
+    let near = texts.iter().filter(|text| text.as_bytes() == body);
+    let near = near.map(|text| text_fault(code, line[0], text));
     let digits = (line[0] == SECTORS).then(|| sectors_fault(code, body));
     let class = body_class(code, line[0]);
-    let closer = near.map(protocol_fault).chain(digits.map(String::from));
+    let closer = near.chain(digits.map(String::from));
     closer.chain([class]).collect()
 }
 
@@ -143,18 +151,20 @@ pub fn body_class(code: u32, node: u8) -> String {
     format!("sheet refused {code}, node {node}")
 }
 
-/// The class of a sheet that is refused for this text of node 8.
-pub fn protocol_fault(text: &str) -> String {
-    format!("{}: {text:?}", body_class(TEXT, PROTOCOL))
+/// The class of a sheet that is refused for this text of a node.
+pub fn text_fault(code: u32, node: u8, text: &str) -> String {
+    format!("{}: {text:?}", body_class(code, node))
 }
 
-/// The classes of a sheet that opened a port, by its nodes 7 and 8.
+/// The classes of a sheet that opened a port, by its nodes 7, 8 and 9.
 pub fn opened_classes(sheet: &[u8]) -> Vec<String> {
     let body_of = |node| entries(sheet).find_map(|(line, body)| (line[0] == node).then_some(body));
     let sectors = body_of(SECTORS).map(|body| sectors_taken(body).into());
     let protocol = body_of(PROTOCOL).map(String::from_utf8_lossy);
     let protocol = opened_by(protocol.as_deref());
-    sectors.into_iter().chain([protocol]).collect()
+    let order = body_of(ORDER).map(String::from_utf8_lossy);
+    let order = opened_with(order.as_deref());
+    sectors.into_iter().chain([protocol, order]).collect()
 }
 
 fn sectors_taken(body: &[u8]) -> &'static str {
@@ -170,4 +180,9 @@ fn sectors_taken(body: &[u8]) -> &'static str {
 /// The class of a sheet that opened a port, by the text of node 8 or its absence.
 pub fn opened_by(protocol: Option<&str>) -> String {
     format!("open done, protocol {}", protocol.unwrap_or("absent"))
+}
+
+/// The class of a sheet that opened a port, by the text of node 9 or its absence.
+pub fn opened_with(order: Option<&str>) -> String {
+    format!("open done, ring-page-order {}", order.unwrap_or("absent"))
 }

@@ -1,9 +1,11 @@
 //! Turns: what was served, and how close to a line.
 
-use super::{served_after_class, wrong_length, yes_or_no, Census};
+use super::rings::{served_after_class, Standing};
+use super::{wrong_length, yes_or_no, Census, ONE_PAGE_RINGS};
+use crate::Ring;
 use history::{History, State};
 use kernelharp::layout::{
-    page, read_u32, read_u64, Abi, GRANTS_BYTES, PORTS, PORT_GRANTS, REQ_PROD, RINGS_BYTES,
+    read_u32, read_u64, ring, Abi, GRANTS_BYTES, PORTS, PORT_GRANTS, REQ_PROD, RINGS_BYTES,
 };
 use kernelharp::words::{extent, kind, turn, TurnWords};
 use second::{Operation, Reason};
@@ -16,7 +18,11 @@ impl Census {
         self.tick(&format!("turn refused {code:02}"));
         let wrong = |bytes: &[u8], due| wrong_length(bytes.len(), due);
         match (wrong(lent, RINGS_BYTES), wrong(grants, GRANTS_BYTES)) {
-            (Some(rings), None) => self.tick(&format!("turn refused 01, rings {rings}")),
+            (Some(rings), None) => {
+                self.tick(&format!("turn refused 01, rings {rings}"));
+                let halved = lent.len() == ONE_PAGE_RINGS;
+                self.tick_if(halved, "turn refused 01, rings of one page each");
+            }
             (None, Some(grants)) => self.tick(&format!("turn refused 01, grants {grants}")),
             _ => self.tick("turn refused 01, rings and grants"),
         }
@@ -35,61 +41,51 @@ impl Census {
         else {
             return;
         };
-        self.note_layouts(history, port, answer[turn::KIND]);
-        let taken = history.taken(port) as u32;
-        let ahead = read_u32(page(lent, port), REQ_PROD).wrapping_sub(taken);
-        let in_flight = history.unfinished(port);
-        let abi = self.books[port].abi;
-        let slot = &page(lent, port)[abi.slot_at(taken)..][..abi.slot_bytes()];
+        self.note_rings(history, port, answer[turn::KIND]);
+        let share = ring(lent, port);
+        let mut standing = self.standing(history, port);
+        standing.ahead = read_u32(share, REQ_PROD).wrapping_sub(standing.index);
+        let abi = standing.ring.abi;
+        let slot = &share[standing.ring.slot_at(standing.index)..][..abi.slot_bytes()];
         let grants = &grants[PORT_GRANTS * port..][..PORT_GRANTS];
         match answer[turn::KIND] {
             kind::IDLE => return self.note_idle(history),
             kind::STARTED => {
+                standing.tag = Some(answer[turn::TAG] as u32);
                 self.note_start(abi, answer);
                 self.note_close_start(port, answer);
             }
             kind::ANSWERED => {
                 self.note_answer(abi, answer, slot[0]);
                 self.note_close_answer(abi, answer, slot, grants);
+                let in_flight = standing.in_flight;
+                self.note_response(&Standing {
+                    index: standing.index.wrapping_sub(in_flight),
+                    passed: standing.passed.wrapping_sub(in_flight),
+                    ..standing
+                });
             }
-            _ => return self.note_overrun(abi, ahead, in_flight),
+            _ => return self.note_overrun(&standing),
         }
         self.note_boundaries(port, answer, slot, grants);
         self.note_discards(port, answer, slot);
-        self.tick_of_if(abi, ahead == 32 - in_flight, "served at the line");
-        self.tick_of_if(abi, in_flight == 31, "served with 31 in flight");
-        self.note_index(abi, taken);
+        self.note_served(&standing);
     }
 
-    /// How far a ring has come.
-    fn note_index(&mut self, abi: Abi, taken: u32) {
-        self.tick_of_if(abi, taken % 32 == 31, "served from slot 31");
-        self.tick_of_if(abi, taken >= 32, "served beyond slot 31");
-        self.tick_of_if(abi, taken >= 1000, "served beyond request 1000");
-    }
-
-    /// Ports of the two layouts beside each other.
-    fn note_layouts(&mut self, history: &History, port: usize, kind: u64) {
-        let open = |abi: Abi| {
-            (0..PORTS).any(|port| history.state(port) == State::Open && self.books[port].abi == abi)
+    /// Ports with different rings beside each other.
+    fn note_rings(&mut self, history: &History, port: usize, kind: u64) {
+        let open = |ring: Ring| {
+            let mut ports = 0..PORTS;
+            ports.any(|port| history.state(port) == State::Open && self.books[port].ring == ring)
         };
-        let both = Abi::ALL.into_iter().all(open);
-        self.tick_if(both, "turn with ports of both layouts open");
-        let abi = self.books[port].abi;
-        let served = (kind != kind::IDLE).then_some(abi);
-        if let (Some(before), Some(abi)) = (self.last_served, served) {
-            self.tick_of(abi, &served_after_class(before));
+        let all = Ring::ALL.into_iter().all(open);
+        self.tick_if(all, "turn with ports of every ring open");
+        let ring = self.books[port].ring;
+        let served = (kind != kind::IDLE).then_some(ring);
+        if let (Some(before), Some(ring)) = (self.last_served, served) {
+            self.tick_ring(ring, &served_after_class(before));
         }
         self.last_served = served;
-    }
-
-    fn note_overrun(&mut self, abi: Abi, ahead: u32, in_flight: u32) {
-        self.tick_of(abi, "overrun");
-        self.tick_of_if(abi, ahead == 33 - in_flight, "overrun, by one");
-        self.tick_of_if(abi, in_flight == 32, "overrun, 32 in flight");
-        self.tick_of_if(abi, ahead >= 1 << 31, "overrun, behind");
-        self.tick_of_if(abi, (34..1 << 31).contains(&ahead), "overrun, far ahead");
-        self.tick_of_if(abi, in_flight > 0, "overrun, some in flight");
     }
 
     fn note_idle(&mut self, history: &History) {
@@ -98,22 +94,17 @@ impl Census {
         self.tick_if(states.contains(&State::Open), "idle, some port open");
         self.tick_if(states.contains(&State::Broken), "idle, some port broken");
         for port in (0..PORTS).filter(|&port| states[port] == State::Open) {
-            let abi = self.books[port].abi;
-            self.tick_of_if(abi, history.unfinished(port) == 32, "idle, 32 in flight");
+            self.note_idle_port(&self.standing(history, port));
         }
     }
 
     fn note_start(&mut self, abi: Abi, answer: &TurnWords) {
         let (operation, extents) = (answer[turn::OPERATION], answer[turn::EXTENT_COUNT]);
-        let (tag, serial) = (answer[turn::TAG], answer[turn::SERIAL]);
         self.tick_of(abi, "started");
         self.tick_of(abi, &format!("started, operation {operation}"));
         let barrier = operation == Operation::Barrier as u64;
         self.tick_of_if(abi, barrier && extents == 0, "started, empty barrier");
         self.tick_of_if(abi, extents == 11, "started, 11 extents");
-        self.tick_of_if(abi, tag == 31, "started, tag 31");
-        let again = tag + 1 < serial && serial >= 32;
-        self.tick_of_if(abi, again, "started, tag come back");
         let discard = operation == Operation::Discard as u64;
         let long = answer[turn::COUNT] > u64::from(u32::MAX);
         self.tick_of_if(abi, discard && long, "started, discard above 2^32 sectors");
@@ -124,7 +115,7 @@ impl Census {
         let Some(disk) = &self.books[port].disk else {
             return;
         };
-        let (abi, sectors) = (self.books[port].abi, disk.sectors);
+        let (abi, sectors) = (self.books[port].ring.abi, disk.sectors);
         let (start, count) = (answer[turn::START], answer[turn::COUNT]);
         let used = answer[turn::EXTENT_COUNT] as usize;
         let mut extents = answer[turn::EXTENTS..].chunks(extent::WORDS).take(used);

@@ -4,7 +4,7 @@ use super::{Generator, Manner};
 use crate::sheets::{any_sheet, sound_sheet};
 use crate::Call;
 use history::State;
-use kernelharp::layout::{GRANTS_BYTES, PORTS, RINGS_BYTES, SLOTS};
+use kernelharp::layout::{GRANTS_BYTES, PORTS, RINGS_BYTES, TAGS};
 use kernelharp::Completion;
 
 impl Generator {
@@ -32,17 +32,19 @@ impl Generator {
         }
     }
 
-    /// Empty, one port's share, one byte off, one share too much, the other buffer's, or any.
+    /// Empty, one port's share, one byte off, one share too much, the other buffer's, one half, as rings
+    /// of one page each would have it, or any.
     fn wrong_length(&mut self, due: usize) -> usize {
         let share = due / PORTS;
         let other = RINGS_BYTES + GRANTS_BYTES - due;
-        match self.random.index(8) {
+        match self.random.index(9) {
             0 | 1 => 0,
             2 => share,
             3 => due - 1,
             4 => due + 1,
             5 => due + share,
             6 => other,
+            7 => due / 2,
             _ => (due + 1 + self.random.index(2 * due - 1)) % (2 * due),
         }
     }
@@ -125,9 +127,12 @@ impl Generator {
         match self.random.index(40) {
             0 => port = self.port_above(),
             1 => port = self.port_in(&[State::Closed]) as u32,
-            2 => tag = self.random.pick(&[32, 33, 64, 288, u32::MAX, tag + 32]),
+            2 => {
+                let near = [32, 33, 63, 64, 65, 288, u32::MAX, tag + 32, tag + 64];
+                tag = self.random.pick(&near);
+            }
             3 => serial = self.wrong_serial(serial),
-            4 => tag = self.random.index(SLOTS) as u32,
+            4 => tag = self.random.index(TAGS) as u32,
             5..=9 => {
                 // Late or doubled: something that was completed before.
                 port = self.random.index(PORTS) as u32;
@@ -147,10 +152,11 @@ impl Generator {
     }
 
     fn wrong_serial(&mut self, serial: u32) -> u32 {
-        match self.random.index(4) {
+        match self.random.index(5) {
             0 => serial.wrapping_add(1),
             1 => serial.wrapping_add(32),
-            2 => serial.wrapping_sub(1),
+            2 => serial.wrapping_add(64),
+            3 => serial.wrapping_sub(1),
             _ => serial ^ (1 << self.random.index(32)),
         }
     }

@@ -2,12 +2,24 @@
 
 use super::{Generator, Guest, Manner, Pace};
 use crate::requests::any_request;
-use crate::{Buffer, World, Write};
+use crate::{Buffer, Ring, World, Write};
 use history::State;
 use kernelharp::layout::{
-    page, read_u32, Abi, GRANTS_BYTES, HEADER_BYTES, PORTS, PORT_GRANTS, REQ_EVENT, REQ_PROD,
-    RING_BYTES, RSP_EVENT, RSP_PROD, SLOTS,
+    read_u32, ring, write_u32, Pages, GRANTS_BYTES, HEADER_BYTES, PAGE_BYTES, PORTS, PORT_GRANTS,
+    REQ_EVENT, REQ_PROD, RING_BYTES, RSP_EVENT, RSP_PROD,
 };
+
+/// How far req_prod is ahead where it is behind.
+const BEHIND: [u32; 5] = [
+    u32::MAX,
+    u32::MAX - 31,
+    u32::MAX - 32,
+    u32::MAX - 63,
+    u32::MAX - 64,
+];
+
+/// Where it is ahead: around both sizes, and far.
+const AHEAD: [u32; 7] = [32, 33, 64, 65, 1 << 31, 0x0100_0000, 0x0001_0001];
 
 impl Generator {
     pub(super) fn write_grants(&mut self, writes: &mut Vec<Write>) {
@@ -33,26 +45,32 @@ impl Generator {
         }
     }
 
-    /// After an opening a guest starts with a clean page; some leave it as it was.
-    pub(super) fn set_up_pages(&mut self, world: &World, writes: &mut Vec<Write>) {
+    /// After an opening a guest starts with a clean header; some leave it as it was. What is behind the
+    /// ring may hold anything.
+    pub(super) fn set_up_rings(&mut self, world: &World, writes: &mut Vec<Write>) {
         for port in 0..PORTS {
             if !std::mem::take(&mut self.guests[port].fresh) {
                 continue;
             }
-            let leaves_page = match self.guests[port].manner {
+            let leaves_header = match self.guests[port].manner {
                 Manner::Polite => false,
                 Manner::Careless => self.random.chance(10),
                 Manner::Hostile => self.random.chance(25),
             };
-            if leaves_page {
-                self.guests[port].produced = read_u32(page(world.rings(), port), REQ_PROD);
-                continue;
+            let Guest {
+                ring: kind, taken, ..
+            } = self.guests[port];
+            if leaves_header {
+                self.guests[port].produced = read_u32(ring(world.rings(), port), REQ_PROD);
+            } else {
+                self.guests[port].produced = taken;
+                write_ring(writes, port, 0, &header_at(taken));
             }
-            self.guests[port].produced = 0;
-            let mut header = [0; HEADER_BYTES];
-            header[REQ_EVENT] = 1;
-            header[RSP_EVENT] = 1;
-            write_page(writes, port, 0, &header);
+            if kind.pages == Pages::One {
+                let mut behind = vec![0; RING_BYTES - PAGE_BYTES];
+                self.random.fill(&mut behind);
+                write_ring(writes, port, PAGE_BYTES, &behind);
+            }
         }
     }
 
@@ -61,11 +79,15 @@ impl Generator {
             Pace::Busy => self.random.index(4),
             Pace::Slow => usize::from(self.random.chance(20)),
             Pace::Quiet => usize::from(self.random.chance(2)),
+            Pace::Lone(_) => self.random.index(2),
         };
         for _ in 0..acts {
-            let port = self.random.index(PORTS);
-            // A page just set up must not be read as it was before.
-            if writes.iter().any(|write| touches_page(write, port)) {
+            let port = match self.pace {
+                Pace::Lone(port) => port,
+                _ => self.random.index(PORTS),
+            };
+            // A ring just set up must not be read as it was before.
+            if writes.iter().any(|write| touches_share(write, port)) {
                 continue;
             }
             match self.guests[port].manner {
@@ -86,13 +108,13 @@ impl Generator {
         if self.guests[port].state != State::Open {
             return;
         }
-        let rsp_prod = read_u32(page(world.rings(), port), RSP_PROD);
+        let rsp_prod = read_u32(ring(world.rings(), port), RSP_PROD);
         if self.random.chance(40) {
             let event = rsp_prod.wrapping_add(self.random.pick(&[1, 1, 1, 2, 8, 0]));
-            write_page(writes, port, RSP_EVENT, &event.to_le_bytes());
+            write_ring(writes, port, RSP_EVENT, &event.to_le_bytes());
         }
         let outstanding = self.guests[port].produced.wrapping_sub(rsp_prod);
-        let room = (SLOTS as u32).saturating_sub(outstanding);
+        let room = self.guests[port].ring.slots().saturating_sub(outstanding);
         let amount = match self.random.index(12) {
             0 => room,
             1..=3 => room.min(1 + self.random.below(6) as u32),
@@ -109,25 +131,25 @@ impl Generator {
         faulty: u64,
         writes: &mut Vec<Write>,
     ) {
-        let abi = self.layout_used(port);
+        let ring = self.ring_used(port);
         let Guest { disk, produced, .. } = &mut self.guests[port];
         let Some(disk) = disk else { return };
         let grants = &world.grants()[PORT_GRANTS * port..][..PORT_GRANTS];
         for _ in 0..amount {
-            let slot = any_request(&mut self.random, abi, disk, grants, faulty);
-            write_page(writes, port, abi.slot_at(*produced), &slot);
+            let slot = any_request(&mut self.random, ring.abi, disk, grants, faulty);
+            write_ring(writes, port, ring.slot_at(*produced), &slot);
             *produced = produced.wrapping_add(1);
         }
-        write_page(writes, port, REQ_PROD, &produced.to_le_bytes());
+        write_ring(writes, port, REQ_PROD, &produced.to_le_bytes());
     }
 
-    /// The layout that requests are written in. A hostile guest may use the one that its port has not.
-    fn layout_used(&mut self, port: usize) -> Abi {
+    /// The ring that requests are written to. A hostile guest may use one that its port has not.
+    fn ring_used(&mut self, port: usize) -> Ring {
         let guest = &self.guests[port];
         if guest.manner == Manner::Hostile && self.random.chance(20) {
-            self.random.pick(&Abi::ALL)
+            self.random.pick(&Ring::ALL)
         } else {
-            guest.abi
+            guest.ring
         }
     }
 
@@ -138,51 +160,59 @@ impl Generator {
         let ahead = match self.random.index(10) {
             0..=3 => room,
             4 | 5 => room + 1,
-            6 => self.random.pick(&[u32::MAX, u32::MAX - 31, u32::MAX - 32]),
-            7 => self
-                .random
-                .pick(&[1 << 31, 33, 64, 0x0100_0000, 0x0001_0001]),
+            6 => self.random.pick(&BEHIND),
+            7 => self.random.pick(&AHEAD),
             8 => 0u32.wrapping_sub(taken).wrapping_sub(1),
             _ => self.random.word() as u32,
         };
         let produced = taken.wrapping_add(ahead);
         self.guests[port].produced = produced;
-        write_page(writes, port, REQ_PROD, &produced.to_le_bytes());
+        write_ring(writes, port, REQ_PROD, &produced.to_le_bytes());
     }
 
-    /// Writes over requests already taken, by either layout's places, over the backend's own header
+    /// Writes over requests already taken, by the places of any ring, over the backend's own header
     /// words, or anywhere.
     fn scribble(&mut self, port: usize, writes: &mut Vec<Write>) {
-        let abi = self.random.pick(&Abi::ALL);
+        let ring = self.random.pick(&Ring::ALL);
         let at = match self.random.index(4) {
-            0 => abi.slot_at(self.random.word() as u32),
+            0 => ring.slot_at(self.random.word() as u32),
             1 => self.random.pick(&[REQ_EVENT, RSP_PROD, RSP_EVENT, 16]),
-            2 => abi.slot_at(self.guests[port].taken.wrapping_sub(1)),
+            2 => ring.slot_at(self.guests[port].taken.wrapping_sub(1)),
             _ => HEADER_BYTES + self.random.index(RING_BYTES - HEADER_BYTES),
         };
         let length = if at < HEADER_BYTES { 4 } else { 24 };
         let mut bytes = vec![0; length.min(RING_BYTES - at)];
         self.random.fill(&mut bytes);
-        write_page(writes, port, at, &bytes);
+        write_ring(writes, port, at, &bytes);
     }
 
-    /// Random bytes in all slots at once, and as many requests as there is room for.
+    /// Random bytes in all of the share behind the header, and as many requests as there is room for.
     fn flood(&mut self, port: usize, writes: &mut Vec<Write>) {
         let mut slots = [0; RING_BYTES - HEADER_BYTES];
         self.random.fill(&mut slots);
-        write_page(writes, port, HEADER_BYTES, &slots);
+        write_ring(writes, port, HEADER_BYTES, &slots);
         let guest = &mut self.guests[port];
         guest.produced = guest.taken.wrapping_add(guest.room());
         let produced = guest.produced;
-        write_page(writes, port, REQ_PROD, &produced.to_le_bytes());
+        write_ring(writes, port, REQ_PROD, &produced.to_le_bytes());
     }
 }
 
-fn touches_page(write: &Write, port: usize) -> bool {
+/// The header of an unused ring, whose indices begin there.
+fn header_at(index: u32) -> [u8; HEADER_BYTES] {
+    let mut header = [0; HEADER_BYTES];
+    write_u32(&mut header, REQ_PROD, index);
+    write_u32(&mut header, RSP_PROD, index);
+    write_u32(&mut header, REQ_EVENT, index.wrapping_add(1));
+    write_u32(&mut header, RSP_EVENT, index.wrapping_add(1));
+    header
+}
+
+fn touches_share(write: &Write, port: usize) -> bool {
     write.buffer == Buffer::Rings && write.at / RING_BYTES == port
 }
 
-fn write_page(writes: &mut Vec<Write>, port: usize, at: usize, bytes: &[u8]) {
+fn write_ring(writes: &mut Vec<Write>, port: usize, at: usize, bytes: &[u8]) {
     writes.push(Write {
         buffer: Buffer::Rings,
         at: RING_BYTES * port + at,

@@ -8,7 +8,7 @@ use self::puts::put_classes;
 use super::{GuestCall, GuestOutcome, Pair};
 use crate::census::{wrong_length, LENGTHS};
 use crate::tally::Tally;
-use kernelharp::layout::{RING_BYTES, SLOTS};
+use kernelharp::layout::{PAGE_BYTES, PAGE_SLOTS};
 use kernelharp::words::collect;
 use second::Refusal;
 use std::collections::VecDeque;
@@ -85,13 +85,13 @@ impl GuestCensus {
         for other in others {
             self.tally.tick(&too_class(name, *first, *other));
         }
-        if let (&WRONG_LENGTH, Some(length)) = (first, wrong_length(lent.len(), RING_BYTES)) {
+        if let (&WRONG_LENGTH, Some(length)) = (first, wrong_length(lent.len(), PAGE_BYTES)) {
             self.tally.tick(&length_class(name, length));
         }
     }
 
     fn is_full(&self) -> bool {
-        self.outstanding.len() == SLOTS
+        self.outstanding.len() == PAGE_SLOTS
     }
 }
 

@@ -5,7 +5,7 @@ use super::words::{any_length, request_of, spoil_words};
 use super::{GuestCall, GuestOutcome, GuestStep, PageWrite};
 use crate::requests::draft;
 use crate::Random;
-use kernelharp::layout::{PORT_GRANTS, RING_BYTES, SLOTS};
+use kernelharp::layout::{PAGE_BYTES, PAGE_SLOTS, PORT_GRANTS};
 use kernelharp::words::{collect, request, RequestWords};
 use second::{Disk, Layout};
 
@@ -22,6 +22,7 @@ const DISK: Disk = Disk {
     sector_size: 512,
     sectors: u64::MAX,
     layout: Layout::BITS_64,
+    slots: PAGE_SLOTS as u32,
 };
 
 /// In a hundred steps: how many are puts, and before how many the backend answers.
@@ -121,7 +122,7 @@ impl GuestGenerator {
     /// Half of the lists begin on a page of any bytes.
     fn set_up_page(&mut self, writes: &mut Vec<PageWrite>) {
         if !std::mem::replace(&mut self.begun, true) && self.random.chance(50) {
-            let mut bytes = vec![0; RING_BYTES];
+            let mut bytes = vec![0; PAGE_BYTES];
             self.random.fill(&mut bytes);
             writes.push(PageWrite { at: 0, bytes });
         }
@@ -169,7 +170,7 @@ impl GuestGenerator {
         let random = &mut self.random;
         let any = random.word();
         let known = self.backend.any_outstanding(random).map(|(id, _)| id);
-        let full = self.backend.outstanding() == SLOTS;
+        let full = self.backend.outstanding() == PAGE_SLOTS;
         match random.index(20) {
             0 => known.unwrap_or(any),
             1..=6 if full => known.unwrap_or(any),

@@ -3,7 +3,7 @@
 use super::{PageWrite, Pair};
 use crate::Random;
 use kernelharp::layout::{
-    Abi, HEADER_BYTES, REQ_EVENT, REQ_PROD, RESPONSE_BYTES, RING_BYTES, RSP_EVENT, RSP_PROD,
+    Abi, Pages, HEADER_BYTES, PAGE_BYTES, REQ_EVENT, REQ_PROD, RESPONSE_BYTES, RSP_EVENT, RSP_PROD,
 };
 use std::collections::VecDeque;
 
@@ -163,7 +163,7 @@ impl Responder {
 
     /// The slot of the response that many behind the next one.
     fn slot_at(&self, behind: u32) -> usize {
-        Abi::Bits64.slot_at(self.collected.wrapping_add(behind))
+        Abi::Bits64.slot_at(Pages::One, self.collected.wrapping_add(behind))
     }
 }
 
@@ -189,10 +189,10 @@ fn response(random: &mut Random, (id, operation): Pair) -> Vec<u8> {
 /// Any bytes in all slots, or in a few of their bytes.
 fn scribble(random: &mut Random, writes: &mut Vec<PageWrite>) {
     let (at, length) = if random.chance(30) {
-        (HEADER_BYTES, RING_BYTES - HEADER_BYTES)
+        (HEADER_BYTES, PAGE_BYTES - HEADER_BYTES)
     } else {
         (
-            HEADER_BYTES + random.index(RING_BYTES - HEADER_BYTES - 24),
+            HEADER_BYTES + random.index(PAGE_BYTES - HEADER_BYTES - 24),
             24,
         )
     };

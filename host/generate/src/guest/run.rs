@@ -4,7 +4,7 @@ use super::{GuestCall, GuestCensus, GuestCore, GuestGenerator, GuestStep};
 use crate::run::{at_fault, run_list, same_words, Failure};
 use crate::world::copy_of_length;
 use crate::UNTOUCHED;
-use kernelharp::layout::{Abi, HEADER_BYTES, REQ_PROD, RING_BYTES, RSP_EVENT, SLOT_BYTES};
+use kernelharp::layout::{Abi, Pages, HEADER_BYTES, PAGE_BYTES, REQ_PROD, RSP_EVENT, SLOT_BYTES};
 use kernelharp::words::{collect, CollectWords, PutWords, COLLECT_WORDS, PUT_WORDS};
 use std::hint::black_box;
 use std::ops::Range;
@@ -95,7 +95,7 @@ impl<'a> GuestProgram<'a> {
 fn written_slot(lent: &[u8], left: &[u8]) -> Range<usize> {
     let changed = (HEADER_BYTES..lent.len()).find(|&at| lent[at] != left[at]);
     let slot = changed.map_or(0, |at| (at - HEADER_BYTES) / SLOT_BYTES);
-    let begin = Abi::Bits64.slot_at(slot as u32);
+    let begin = Abi::Bits64.slot_at(Pages::One, slot as u32);
     begin..begin + SLOT_BYTES
 }
 
@@ -120,7 +120,7 @@ fn make_call(
         GuestCall::Collect { .. } => guest.collect(page, &mut outcome.collected),
     };
     let found = outcome.collected[collect::FOUND];
-    if outcome.code == 0 && page.len() != RING_BYTES {
+    if outcome.code == 0 && page.len() != PAGE_BYTES {
         return Err("a call was done on a page of another length".into());
     }
     match (outcome.code, call) {
@@ -182,7 +182,7 @@ pub fn run_guests(
     let mut generator = GuestGenerator::new(seed);
     let programs = guests.iter_mut().map(|guest| GuestProgram::new(*guest));
     let mut run = Run {
-        programs: programs.map(|it| (it, vec![0; RING_BYTES])).collect(),
+        programs: programs.map(|it| (it, vec![0; PAGE_BYTES])).collect(),
         census: GuestCensus::new(),
     };
     run_list(seed, calls, || {

@@ -2,7 +2,7 @@
 
 use crate::requests::{Draft, BARRIER, DISCARD, FLUSH};
 use crate::Random;
-use kernelharp::layout::{EXTENTS, RING_BYTES};
+use kernelharp::layout::{EXTENTS, PAGE_BYTES};
 use kernelharp::words::{request, segment, RequestWords, REQUEST_WORDS};
 
 /// The words of a draft. Those that its operation does not use are zeros, or any.
@@ -111,15 +111,15 @@ fn spoil_segment(random: &mut Random, words: &mut [u64]) {
 /// two pages, or any.
 pub fn any_length(random: &mut Random) -> usize {
     if !random.chance(3) {
-        return RING_BYTES;
+        return PAGE_BYTES;
     }
     match random.index(8) {
         0 | 1 => 0,
-        2 => RING_BYTES - 1,
-        3 => RING_BYTES + 1,
+        2 => PAGE_BYTES - 1,
+        3 => PAGE_BYTES + 1,
         4 => 3648,
-        5 => 2 * RING_BYTES,
+        5 => 2 * PAGE_BYTES,
         6 => 64,
-        _ => (RING_BYTES + 1 + random.index(2 * RING_BYTES - 1)) % (2 * RING_BYTES),
+        _ => (PAGE_BYTES + 1 + random.index(2 * PAGE_BYTES - 1)) % (2 * PAGE_BYTES),
     }
 }

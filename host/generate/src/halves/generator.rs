@@ -4,8 +4,10 @@ use super::{HalvesOutcome, HalvesStep};
 use crate::guest::{any_length, request_of, spoil_words};
 use crate::requests::{draft, spoil};
 use crate::sheets::sound_sheet;
-use crate::{Buffer, Call, Generator, GuestCall, GuestOutcome, Random, Step, World, Write};
-use kernelharp::layout::{Abi, GRANTS_BYTES, PORTS, PORT_GRANTS, RINGS_BYTES, RING_BYTES, SLOTS};
+use crate::{Buffer, Call, Generator, GuestCall, GuestOutcome, Random, Ring, Step, World, Write};
+use kernelharp::layout::{
+    Abi, GRANTS_BYTES, PAGE_BYTES, PAGE_SLOTS, PORTS, PORT_GRANTS, RINGS_BYTES, RING_BYTES,
+};
 use kernelharp::words::{collect, request, RequestWords};
 use second::{read_sheet, Disk};
 
@@ -55,7 +57,9 @@ impl HalvesGenerator {
         let (sheet, disk) = loop {
             let sheet = sound_sheet(&mut random);
             match read_sheet(&sheet) {
-                Ok(disk) if Abi::of_sheet(&sheet) == Abi::Bits64 => break (sheet, disk),
+                Ok(disk) if Ring::of_sheet(&sheet) == Ring::from(Abi::Bits64) => {
+                    break (sheet, disk)
+                }
                 _ => {}
             }
         };
@@ -100,12 +104,14 @@ impl HalvesGenerator {
 
     /// A full ring is tried now and then, and left to the backend otherwise.
     fn is_stuck(&mut self) -> bool {
-        self.outstanding.len() == SLOTS && self.random.chance(60)
+        self.outstanding.len() == PAGE_SLOTS && self.random.chance(60)
     }
 
-    /// Whether a write is one to the page that only the two halves write.
+    /// Whether a write is one to the page that only the two halves write. Behind it, in the port's share,
+    /// anybody may write.
     fn is_ours(&self, write: &Write) -> bool {
-        write.buffer == Buffer::Rings && write.at / RING_BYTES == self.port
+        let page = RING_BYTES * self.port;
+        write.buffer == Buffer::Rings && (page..page + PAGE_BYTES).contains(&write.at)
     }
 
     /// The port is opened once, by its own sheet, and closed where that may be.
@@ -113,7 +119,7 @@ impl HalvesGenerator {
         let ours = self.port as u32;
         let stays = match *call {
             Call::Open { port, .. } if port == ours => self.opened && !self.closed,
-            Call::Close { port } if port == ours => self.may_close && self.random.chance(10),
+            Call::Close { port } if port == ours => self.may_close && self.random.chance(30),
             _ => true,
         };
         if !stays {

@@ -1,7 +1,7 @@
 //! A request by its fields: as its words were handed in, as its slot has it, and as a plan has it.
 
 use super::REQUEST_WORDS;
-use crate::page::{turn, u32_at, u64_at, TURN_WORDS};
+use crate::places::{turn, u32_at, u64_at, TURN_WORDS};
 
 /// The most segments of a request.
 const SEGMENTS: usize = 11;

@@ -1,20 +1,48 @@
-//! A backend over live ring pages.
+//! A backend over live rings.
 
-use super::SharedPage;
+use super::SharedRing;
 use crate::answers::{Done, Turn};
 use crate::backend::Backend;
 use crate::ffi::{ArchiveMismatch, Meter};
-use crate::layout::{Abi, PORTS, PORT_GRANTS};
+use crate::layout::{Abi, Pages, PORTS, PORT_GRANTS};
 use crate::names::{Name, Port};
 use crate::terms::Refusal;
+use std::fmt;
 use std::sync::atomic::{fence, Ordering};
 
-/// A [`Backend`] whose open ports have live pages. What it answers about notifying holds for them.
+/// A [`Backend`] whose open ports have live rings. What it answers about notifying holds for them.
 #[derive(Debug)]
 pub struct LiveBackend {
     backend: Backend,
     /// One for each port that is open or broken.
-    pages: [Option<SharedPage>; PORTS],
+    rings: [Option<SharedRing>; PORTS],
+}
+
+/// Why a port was not opened over a live ring.
+#[derive(Clone, Copy, Debug, PartialEq, Eq)]
+#[non_exhaustive]
+pub enum NotOpened {
+    /// The sheet asks for two pages, and one is mapped.
+    TooFewPages,
+    /// The open was refused.
+    Refused(Refusal),
+}
+
+impl fmt::Display for NotOpened {
+    fn fmt(&self, f: &mut fmt::Formatter) -> fmt::Result {
+        match self {
+            NotOpened::TooFewPages => f.write_str("a ring of two pages, of which one is mapped"),
+            NotOpened::Refused(refusal) => refusal.fmt(f),
+        }
+    }
+}
+
+impl std::error::Error for NotOpened {}
+
+impl From<Refusal> for NotOpened {
+    fn from(refusal: Refusal) -> NotOpened {
+        NotOpened::Refused(refusal)
+    }
 }
 
 impl LiveBackend {
@@ -22,7 +50,7 @@ impl LiveBackend {
     pub fn new() -> Result<LiveBackend, ArchiveMismatch> {
         Ok(LiveBackend {
             backend: Backend::new()?,
-            pages: [const { None }; PORTS],
+            rings: [const { None }; PORTS],
         })
     }
 
@@ -42,19 +70,30 @@ impl LiveBackend {
         self.backend.take_meter(port)
     }
 
-    /// Opens a closed port over a page, which isn't touched. The page is laid out as the sheet says.
-    pub fn open(&mut self, port: Port, sheet: &[u8], mut page: SharedPage) -> Result<(), Refusal> {
+    /// Opens a closed port over a ring, which isn't touched. Its layout, and how many of its pages are
+    /// used, is as the sheet says. A ring with fewer pages is told of before all else, and nothing has
+    /// happened then, as with a refusal.
+    pub fn open(
+        &mut self,
+        port: Port,
+        sheet: &[u8],
+        mut ring: SharedRing,
+    ) -> Result<(), NotOpened> {
+        let pages = Pages::of_sheet(sheet);
+        if pages > ring.mapped() {
+            return Err(NotOpened::TooFewPages);
+        }
         self.backend.open(port, sheet)?;
-        page.restart(Abi::of_sheet(sheet), self.backend.page_mut(port));
-        self.pages[port.index()] = Some(page);
+        ring.restart(Abi::of_sheet(sheet), pages, self.backend.ring_mut(port));
+        self.rings[port.index()] = Some(ring);
         Ok(())
     }
 
-    /// Closes a port with nothing in flight and gives its page back.
-    pub fn close(&mut self, port: Port) -> Result<SharedPage, Refusal> {
+    /// Closes a port with nothing in flight and gives its ring back.
+    pub fn close(&mut self, port: Port) -> Result<SharedRing, Refusal> {
         self.backend.close(port)?;
-        let page = self.pages[port.index()].take();
-        Ok(page.expect("a port is opened with a page"))
+        let ring = self.rings[port.index()].take();
+        Ok(ring.expect("a port is opened with a ring"))
     }
 
     /// Takes a turn. Idle is answered only after the second look: a host may then sleep until it is
@@ -72,46 +111,46 @@ impl LiveBackend {
 
     /// Answers a started request, as [`Backend::complete`] has it.
     pub fn complete(&mut self, name: Name, result: i32) -> Result<Done, Refusal> {
-        let LiveBackend { backend, pages } = self;
-        let Some(page) = &mut pages[name.port.index()] else {
+        let LiveBackend { backend, rings } = self;
+        let Some(ring) = &mut rings[name.port.index()] else {
             return Err(Refusal::IsClosed);
         };
-        page.copy_rsp_event_in(backend.page_mut(name.port));
+        ring.copy_rsp_event_in(backend.ring_mut(name.port));
         let mut done = backend.complete(name, result)?;
-        done.notify = page.copy_response_out(backend.page(name.port), done.notify);
+        done.notify = ring.copy_response_out(backend.ring(name.port), done.notify);
         Ok(done)
     }
 
     /// One turn, with what it needs copied in and what it wrote copied out.
     fn look(&mut self) -> Turn {
-        let LiveBackend { backend, pages } = self;
-        for (port, page) in Port::all().zip(pages.iter_mut()) {
-            if let Some(page) = page {
-                page.copy_in(backend.page_mut(port));
+        let LiveBackend { backend, rings } = self;
+        for (port, ring) in Port::all().zip(rings.iter_mut()) {
+            if let Some(ring) = ring {
+                ring.copy_in(backend.ring_mut(port));
             }
         }
         let mut turn = backend.turn();
         match &mut turn {
             Turn::Idle => {
-                for (port, page) in Port::all().zip(pages.iter()) {
-                    if let Some(page) = page {
-                        page.copy_req_event_out(backend.page(port));
+                for (port, ring) in Port::all().zip(rings.iter()) {
+                    if let Some(ring) = ring {
+                        ring.copy_req_event_out(backend.ring(port));
                     }
                 }
             }
-            Turn::Started(plan) => served(pages, plan.name.port).took_request(),
+            Turn::Started(plan) => served(rings, plan.name.port).took_request(),
             Turn::Answered { port, notify, .. } => {
-                let page = served(pages, *port);
-                page.took_request();
-                *notify = page.copy_response_out(backend.page(*port), *notify);
+                let ring = served(rings, *port);
+                ring.took_request();
+                *notify = ring.copy_response_out(backend.ring(*port), *notify);
             }
-            Turn::Overrun(port) => served(pages, *port).overran(),
+            Turn::Overrun(port) => served(rings, *port).overran(),
         }
         turn
     }
 }
 
-fn served(pages: &mut [Option<SharedPage>; PORTS], port: Port) -> &mut SharedPage {
-    let page = pages[port.index()].as_mut();
-    page.expect("only open ports are served, and those have a page")
+fn served(rings: &mut [Option<SharedRing>; PORTS], port: Port) -> &mut SharedRing {
+    let ring = rings[port.index()].as_mut();
+    ring.expect("only open ports are served, and those have a ring")
 }

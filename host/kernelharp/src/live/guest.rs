@@ -4,14 +4,14 @@ use super::OwnPage;
 use crate::backend::zeros;
 use crate::ffi::{ArchiveMismatch, Mapping};
 use crate::guest::{Guest, Request, Response};
-use crate::layout::RING_BYTES;
+use crate::layout::PAGE_BYTES;
 use crate::terms::Refusal;
 
 /// A [`Guest`] whose page is live. What it answers about notifying holds for that page.
 #[derive(Debug)]
 pub struct LiveGuest {
     guest: Guest,
-    private: Box<[u8; RING_BYTES]>,
+    private: Box<[u8; PAGE_BYTES]>,
     page: OwnPage,
 }
 
@@ -68,8 +68,10 @@ impl LiveGuest {
 mod tests {
     use super::*;
     use crate::guest::Segment;
-    use crate::layout::{read_u32, write_u32, Abi, REQ_EVENT, REQ_PROD, RSP_EVENT, RSP_PROD};
-    use crate::live::RING_WORDS;
+    use crate::layout::{
+        read_u32, write_u32, Abi, Pages, REQ_EVENT, REQ_PROD, RSP_EVENT, RSP_PROD,
+    };
+    use crate::live::PAGE_WORDS;
     use crate::terms::Status;
     use std::ops::Range;
     use std::sync::atomic::{AtomicU32, Ordering};
@@ -78,7 +80,7 @@ mod tests {
     const READ: u8 = 0;
 
     /// The page as the backend has it.
-    struct Shared(&'static [AtomicU32; RING_WORDS]);
+    struct Shared(&'static [AtomicU32; PAGE_WORDS]);
 
     impl Shared {
         /// Written before, by whoever had the page.
@@ -88,7 +90,7 @@ mod tests {
             Shared(Box::leak(Box::new(words)))
         }
 
-        fn bytes(&self) -> [u8; RING_BYTES] {
+        fn bytes(&self) -> [u8; PAGE_BYTES] {
             let words = self.0.iter().map(|word| word.load(Ordering::Relaxed));
             let bytes: Vec<u8> = words.flat_map(u32::to_ne_bytes).collect();
             bytes.try_into().expect("a page")
@@ -110,7 +112,7 @@ mod tests {
             let [low, high] = (status as i16).to_le_bytes();
             let rest = [READ, 0, low, high, 0, 0, 0, 0];
             let response = [id.to_le_bytes(), rest].concat();
-            self.write(Abi::Bits64.slot_at(index), &response);
+            self.write(slot(index).start, &response);
         }
     }
 
@@ -134,14 +136,14 @@ mod tests {
     }
 
     fn slot(index: u32) -> Range<usize> {
-        let at = Abi::Bits64.slot_at(index);
+        let at = Abi::Bits64.slot_at(Pages::One, index);
         at..at + Abi::Bits64.slot_bytes()
     }
 
     #[test]
     fn a_new_guest_zeroes_its_page() {
         let (guest, shared) = connected();
-        assert_eq!(shared.bytes(), [0; RING_BYTES]);
+        assert_eq!(shared.bytes(), [0; PAGE_BYTES]);
         assert_eq!(guest.outstanding(), 0);
     }
 
@@ -150,11 +152,11 @@ mod tests {
     fn a_put_writes_its_slot_and_req_prod_alone() {
         let (mut guest, shared) = connected();
         for index in 0..100 {
-            let before = [0xC3 ^ index as u8; RING_BYTES];
+            let before = [0xC3 ^ index as u8; PAGE_BYTES];
             shared.write(0, &before);
             let _ = guest.put(&read(u64::from(index))).unwrap();
             let mut due = before;
-            let mut lent = [0; RING_BYTES];
+            let mut lent = [0; PAGE_BYTES];
             let _ = Guest::new()
                 .unwrap()
                 .put(&mut lent, &read(u64::from(index)));
@@ -176,7 +178,7 @@ mod tests {
             assert_eq!(guest.put(&read(id)), Ok(due), "{req_event}");
         }
         // The backend goes to sleep between the call's look and the second one.
-        let (mut private, shared) = ([0; RING_BYTES], Shared::new());
+        let (mut private, shared) = ([0; PAGE_BYTES], Shared::new());
         let mut own = OwnPage::new(Mapping::of_atomics(shared.0));
         own.copy_req_event_in(&mut private);
         shared.set(REQ_EVENT, 1);

@@ -1,14 +1,14 @@
 //! A guest's own ring page, which the backend may write at the same time.
 
-use super::copy::lies_within;
+use super::copy::{lies_within, Live};
 use crate::ffi::{Mapping, WORD_BYTES};
-use crate::layout::{write_u32, Abi, REQ_EVENT, REQ_PROD, RING_BYTES, RSP_EVENT, RSP_PROD};
+use crate::layout::{write_u32, Abi, Pages, PAGE_BYTES, REQ_EVENT, REQ_PROD, RSP_EVENT, RSP_PROD};
 use std::sync::atomic::{fence, Ordering};
 
 /// The one layout of the guest's half.
 const ABI: Abi = Abi::Bits64;
 
-/// A guest's own ring page, live, and what the guest itself counts of it.
+/// A guest's own ring of one page, live, and what the guest itself counts of it.
 ///
 /// The page lent to a call is the private one, the same at each call. The fences stand where ring.h
 /// has its barriers, and do on x86-64, which the archive is for, what those do.
@@ -24,7 +24,7 @@ pub struct OwnPage {
 impl OwnPage {
     /// A page that no backend knows of yet. It is filled with zeros, as a fresh guest needs it.
     pub fn new(page: Mapping) -> OwnPage {
-        page.copy_out(0, RING_BYTES, &[0; RING_BYTES]);
+        page.copy_out(0, PAGE_BYTES, &[0; PAGE_BYTES]);
         OwnPage {
             page,
             req_prod_pvt: 0,
@@ -38,18 +38,17 @@ impl OwnPage {
     }
 
     /// Before a put: req_event, the one word of the backend's that it reads.
-    pub fn copy_req_event_in(&self, private: &mut [u8; RING_BYTES]) {
+    pub fn copy_req_event_in(&self, private: &mut [u8; PAGE_BYTES]) {
         self.page.copy_in(REQ_EVENT, WORD_BYTES, private);
     }
 
     /// After a put: the request, then req_prod. Says whether the backend is to be notified, with what
     /// the call said about it.
     #[must_use = "a backend that is not notified may sleep for ever"]
-    pub fn copy_request_out(&mut self, private: &[u8; RING_BYTES], call_said: bool) -> bool {
+    pub fn copy_request_out(&mut self, private: &[u8; PAGE_BYTES], call_said: bool) -> bool {
         let old = self.req_prod_pvt;
         let new = old.wrapping_add(1);
-        self.page
-            .copy_out(ABI.slot_at(old), ABI.slot_bytes(), private);
+        self.page.copy_out(slot_at(old), ABI.slot_bytes(), private);
         // The request is there before the index that publishes it.
         fence(Ordering::Release);
         self.page.copy_out(REQ_PROD, WORD_BYTES, private);
@@ -62,13 +61,13 @@ impl OwnPage {
     }
 
     /// Before a collect: rsp_prod, and the next response where there is one.
-    pub fn copy_response_in(&self, private: &mut [u8; RING_BYTES]) {
+    pub fn copy_response_in(&self, private: &mut [u8; PAGE_BYTES]) {
         let rsp_prod = self.page.number(RSP_PROD);
         // A response is read after the index that published it.
         fence(Ordering::Acquire);
         write_u32(private, RSP_PROD, rsp_prod);
         if rsp_prod != self.rsp_cons {
-            let at = ABI.slot_at(self.rsp_cons);
+            let at = slot_at(self.rsp_cons);
             self.page.copy_in(at, ABI.response_bytes(), private);
         }
     }
@@ -80,8 +79,13 @@ impl OwnPage {
 
     /// After a collect that found none: rsp_event. Before the guest sleeps it looks once more, and so
     /// that this look comes after the store, there is a full fence here.
-    pub fn copy_rsp_event_out(&self, private: &[u8; RING_BYTES]) {
+    pub fn copy_rsp_event_out(&self, private: &[u8; PAGE_BYTES]) {
         self.page.copy_out(RSP_EVENT, WORD_BYTES, private);
         fence(Ordering::SeqCst);
     }
+}
+
+/// Where the slot of an index begins.
+fn slot_at(index: u32) -> usize {
+    ABI.slot_at(Pages::One, index)
 }

@@ -1,11 +1,12 @@
-//! Plain memory stands in for a guest's page; the guest's part is played between the calls, or
+//! Plain memory stands in for a guest's ring; the guest's part is played between the calls, or
 //! between a call's copying in and out.
 
-use super::{LiveBackend, Mapping, SharedPage, RING_WORDS};
+use super::{LiveBackend, Mapping, NotOpened, SharedRing, PAGE_WORDS};
 use crate::answers::{Plan, Turn};
 use crate::ffi::Meter;
 use crate::layout::{
-    read_u32, write_u32, Abi, REQ_EVENT, REQ_PROD, RING_BYTES, RSP_EVENT, RSP_PROD,
+    read_u32, write_u32, Abi, Pages, PAGE_BYTES, REQ_EVENT, REQ_PROD, RING_BYTES, RING_PAGES,
+    RSP_EVENT, RSP_PROD,
 };
 use crate::names::{Name, Port, Serial, Tag};
 use crate::sheet::Sheet;
@@ -17,80 +18,126 @@ const PATTERN: u8 = 0xA5;
 const FLUSH: u8 = 3;
 const UNKNOWN: u8 = 9;
 
-/// Runs each of the tests named in both layouts.
-macro_rules! in_both_layouts {
+/// Runs each of the tests named with rings of both layouts and both sizes.
+macro_rules! with_every_ring {
     ($($test:ident)*) => {
         $(
             mod $test {
-                use crate::layout::Abi;
+                use crate::layout::{Abi, Pages};
 
                 #[test]
-                fn bits64() {
-                    super::$test(Abi::Bits64);
+                fn bits64_one_page() {
+                    super::$test(Abi::Bits64, Pages::One);
                 }
 
                 #[test]
-                fn bits32() {
-                    super::$test(Abi::Bits32);
+                fn bits32_one_page() {
+                    super::$test(Abi::Bits32, Pages::One);
+                }
+
+                #[test]
+                fn bits64_two_pages() {
+                    super::$test(Abi::Bits64, Pages::Two);
+                }
+
+                #[test]
+                fn bits32_two_pages() {
+                    super::$test(Abi::Bits32, Pages::Two);
                 }
             }
         )*
     };
 }
 
-in_both_layouts! {
+with_every_ring! {
     only_new_requests_and_two_indices_are_copied_in
     a_waiting_request_is_not_copied_again
     a_req_prod_moved_back_takes_its_requests_back
     an_overrun_drawn_back_leaves_nothing_copied
-    an_overrun_drawn_back_serves_the_page_as_it_is
+    an_overrun_drawn_back_serves_the_ring_as_it_is
     no_request_is_copied_beyond_the_ring
+    every_request_of_a_full_ring_is_copied
     a_response_leaves_what_the_guest_wrote_meanwhile
     rsp_event_is_looked_at_again
     an_idle_turn_writes_req_event_alone
-    turns_and_completions_through_a_live_page
+    turns_and_completions_through_a_live_ring
     a_broken_port_is_neither_read_nor_armed_but_completes
     every_slot_comes_round
     a_port_is_metered_across_openings
-    nothing_of_the_other_layout_stays
-    a_port_opened_anew_has_the_layout_of_its_new_sheet
+    nothing_of_another_ring_stays
+    a_port_opened_anew_has_the_ring_of_its_new_sheet
 }
 
-/// A guest with its page.
+type Page = [AtomicU32; PAGE_WORDS];
+
+/// A guest with its ring.
 struct Guest {
-    page: &'static [AtomicU32; RING_WORDS],
+    /// Two pages, apart in memory and in the other order.
+    memory: &'static [Page; 3],
     abi: Abi,
+    pages: Pages,
 }
 
 impl Guest {
-    /// A page of the pattern with all indices 0.
-    fn new(abi: Abi) -> Guest {
+    /// A ring of the pattern with all indices 0.
+    fn new(abi: Abi, pages: Pages) -> Guest {
         let pattern = || AtomicU32::new(u32::from_ne_bytes([PATTERN; 4]));
+        let page = || std::array::from_fn(|_| pattern());
         let guest = Guest {
-            page: Box::leak(Box::new(std::array::from_fn(|_| pattern()))),
+            memory: Box::leak(Box::new([page(), page(), page()])),
             abi,
+            pages,
         };
-        for at in [REQ_PROD, REQ_EVENT, RSP_PROD, RSP_EVENT] {
-            guest.set(at, 0);
-        }
+        guest.zero_indices();
         guest
     }
 
-    /// The same page in the hands of a guest of the other layout.
+    fn zero_indices(&self) {
+        for at in [REQ_PROD, REQ_EVENT, RSP_PROD, RSP_EVENT] {
+            self.set(at, 0);
+        }
+    }
+
+    /// The same memory in the hands of a guest of the other layout and size.
     fn other(&self) -> Guest {
-        let [one, other] = Abi::ALL;
-        let abi = if self.abi == one { other } else { one };
-        Guest { abi, ..*self }
+        let abi = match self.abi {
+            Abi::Bits64 => Abi::Bits32,
+            Abi::Bits32 => Abi::Bits64,
+        };
+        let pages = match self.pages {
+            Pages::One => Pages::Two,
+            Pages::Two => Pages::One,
+        };
+        Guest {
+            abi,
+            pages,
+            ..*self
+        }
     }
 
-    fn share(&self) -> SharedPage {
-        SharedPage::new(Mapping::of_atomics(self.page), self.abi)
+    fn page(&self, number: usize) -> &'static Page {
+        &self.memory[2 - 2 * number]
     }
 
-    /// The page and its private one, as they are when the port was opened.
-    fn opened(&self) -> (SharedPage, [u8; RING_BYTES]) {
+    /// The ring as a host has it mapped.
+    fn share(&self) -> SharedRing {
+        let map = |number| Mapping::of_atomics(self.page(number));
+        match self.pages {
+            Pages::One => SharedRing::one_page(map(0), self.abi),
+            Pages::Two => SharedRing::two_pages([map(0), map(1)], self.abi),
+        }
+    }
+
+    /// The same with both pages mapped, whatever is used of them.
+    fn share_all(&self) -> SharedRing {
+        let pages = Pages::Two;
+        Guest { pages, ..*self }.share()
+    }
+
+    /// The ring and its private one, as they are when the port was opened.
+    fn opened(&self) -> (SharedRing, [u8; RING_BYTES]) {
         let (mut shared, mut private) = (self.share(), [PATTERN; RING_BYTES]);
-        shared.restart(self.abi, &mut private);
+        shared.restart(self.abi, self.pages, &mut private);
         (shared, private)
     }
 
@@ -102,28 +149,39 @@ impl Guest {
             sector_size: 512,
             sectors: 2008,
             abi: self.abi,
+            pages: self.pages,
             ..Sheet::default()
         };
         sheet.bytes()
     }
 
-    /// The bytes of an index's slot within the page.
+    fn slot_at(&self, index: u32) -> usize {
+        self.abi.slot_at(self.pages, index)
+    }
+
+    /// The bytes of an index's slot within the ring.
     fn slot(&self, index: u32) -> Range<usize> {
-        let at = self.abi.slot_at(index);
+        let at = self.slot_at(index);
         at..at + self.abi.slot_bytes()
     }
 
     /// Those that a response has.
     fn response(&self, index: u32) -> Range<usize> {
-        let at = self.abi.slot_at(index);
+        let at = self.slot_at(index);
         at..at + self.abi.response_bytes()
+    }
+
+    /// A word of the ring, whichever page it is in.
+    fn word(&self, at: usize) -> &AtomicU32 {
+        &self.page(at / PAGE_BYTES)[at % PAGE_BYTES / 4]
     }
 
     /// Writes whole words, from a multiple of four on.
     fn write(&self, at: usize, bytes: &[u8]) {
-        for (word, bytes) in self.page[at / 4..].iter().zip(bytes.chunks_exact(4)) {
+        for (at, bytes) in (at..).step_by(4).zip(bytes.chunks_exact(4)) {
             let bytes = bytes.try_into().expect("four bytes");
-            word.store(u32::from_ne_bytes(bytes), Ordering::Relaxed);
+            self.word(at)
+                .store(u32::from_ne_bytes(bytes), Ordering::Relaxed);
         }
     }
 
@@ -135,9 +193,12 @@ impl Guest {
         read_u32(&self.bytes(), at)
     }
 
+    /// Both pages in the order of the ring.
     fn bytes(&self) -> Vec<u8> {
-        let words = self.page.iter().map(|word| word.load(Ordering::Relaxed));
-        words.flat_map(u32::to_ne_bytes).collect()
+        let words = (0..RING_PAGES).flat_map(|number| self.page(number));
+        words
+            .flat_map(|word| word.load(Ordering::Relaxed).to_ne_bytes())
+            .collect()
     }
 
     /// Puts a request of no segments at an index.
@@ -145,7 +206,7 @@ impl Guest {
         let mut slot = vec![0; self.abi.slot_bytes()];
         slot[0] = operation;
         slot[self.abi.id_at()] = index as u8;
-        self.write(self.abi.slot_at(index), &slot);
+        self.write(self.slot_at(index), &slot);
     }
 
     /// Puts a request and publishes it.
@@ -167,17 +228,17 @@ fn port(number: u32) -> Port {
     Port::try_from(number).unwrap()
 }
 
-/// A backend with port 2 open over a guest's page.
-fn opened(abi: Abi) -> (LiveBackend, Guest) {
-    let (mut backend, guest) = (LiveBackend::new().unwrap(), Guest::new(abi));
-    let page = guest.share();
-    backend.open(port(2), &guest.sheet(), page).unwrap();
+/// A backend with port 2 open over a guest's ring.
+fn opened(abi: Abi, pages: Pages) -> (LiveBackend, Guest) {
+    let (mut backend, guest) = (LiveBackend::new().unwrap(), Guest::new(abi, pages));
+    let ring = guest.share();
+    backend.open(port(2), &guest.sheet(), ring).unwrap();
     (backend, guest)
 }
 
-/// The operations of the requests in a private page, from index 0 on.
+/// The operations of the requests in a private ring, from index 0 on.
 fn operations<const COUNT: usize>(guest: &Guest, private: &[u8; RING_BYTES]) -> [u8; COUNT] {
-    std::array::from_fn(|index| private[guest.abi.slot_at(index as u32)])
+    std::array::from_fn(|index| private[guest.slot_at(index as u32)])
 }
 
 fn started(turn: Turn) -> Plan {
@@ -187,13 +248,13 @@ fn started(turn: Turn) -> Plan {
     }
 }
 
-fn only_new_requests_and_two_indices_are_copied_in(abi: Abi) {
-    let guest = Guest::new(abi);
+fn only_new_requests_and_two_indices_are_copied_in(abi: Abi, pages: Pages) {
+    let guest = Guest::new(abi, pages);
     let (mut shared, mut private) = guest.opened();
     let mut due = private;
     for index in 0..2 {
         let slot = vec![7 + index as u8; abi.slot_bytes()];
-        guest.write(abi.slot_at(index), &slot);
+        guest.write(guest.slot_at(index), &slot);
         due[guest.slot(index)].copy_from_slice(&slot);
     }
     guest.set(REQ_PROD, 2);
@@ -206,8 +267,8 @@ fn only_new_requests_and_two_indices_are_copied_in(abi: Abi) {
     assert_eq!(private, due);
 }
 
-fn a_waiting_request_is_not_copied_again(abi: Abi) {
-    let guest = Guest::new(abi);
+fn a_waiting_request_is_not_copied_again(abi: Abi, pages: Pages) {
+    let guest = Guest::new(abi, pages);
     let (mut shared, mut private) = guest.opened();
     guest.post(0, 1);
     guest.post(1, 1);
@@ -219,8 +280,8 @@ fn a_waiting_request_is_not_copied_again(abi: Abi) {
     assert_eq!(operations(&guest, &private), [1, 1, 2]);
 }
 
-fn a_req_prod_moved_back_takes_its_requests_back(abi: Abi) {
-    let guest = Guest::new(abi);
+fn a_req_prod_moved_back_takes_its_requests_back(abi: Abi, pages: Pages) {
+    let guest = Guest::new(abi, pages);
     let (mut shared, mut private) = guest.opened();
     for index in 0..3 {
         guest.post(index, 1);
@@ -235,16 +296,16 @@ fn a_req_prod_moved_back_takes_its_requests_back(abi: Abi) {
     assert_eq!(operations(&guest, &private), [1, 2, 2]);
 }
 
-/// What waits when req_prod was beyond the ring and has come back is what the page holds then, not
+/// What waits when req_prod was beyond the ring and has come back is what the ring holds then, not
 /// what it held before.
-fn an_overrun_drawn_back_leaves_nothing_copied(abi: Abi) {
-    let guest = Guest::new(abi);
+fn an_overrun_drawn_back_leaves_nothing_copied(abi: Abi, pages: Pages) {
+    let guest = Guest::new(abi, pages);
     let (mut shared, mut private) = guest.opened();
     for index in 0..2 {
         guest.post(index, 1);
     }
     shared.copy_in(&mut private);
-    guest.set(REQ_PROD, 33);
+    guest.set(REQ_PROD, pages.slots() + 1);
     shared.copy_in(&mut private);
     for index in 0..2 {
         guest.post(index, 2);
@@ -253,19 +314,21 @@ fn an_overrun_drawn_back_leaves_nothing_copied(abi: Abi) {
     assert_eq!(operations(&guest, &private), [2, 2]);
 }
 
-/// The same by turns: while port 2 is beyond the ring, port 1 is served, a guest of the other layout.
-fn an_overrun_drawn_back_serves_the_page_as_it_is(abi: Abi) {
-    let (mut backend, guest) = opened(abi);
-    let other = Guest::new(guest.other().abi);
-    let page = other.share();
-    backend.open(port(1), &other.sheet(), page).unwrap();
+/// The same by turns: while port 2 is beyond the ring, port 1 is served, a guest of the other layout and
+/// size.
+fn an_overrun_drawn_back_serves_the_ring_as_it_is(abi: Abi, pages: Pages) {
+    let (mut backend, guest) = opened(abi, pages);
+    let Guest { abi, pages, .. } = guest.other();
+    let other = Guest::new(abi, pages);
+    let ring = other.share();
+    backend.open(port(1), &other.sheet(), ring).unwrap();
     other.post(0, FLUSH);
     guest.post(0, FLUSH);
     assert_eq!(started(backend.turn()).name.port, port(1));
     other.post(1, FLUSH);
     guest.post(1, FLUSH);
     assert_eq!(started(backend.turn()).name.port, port(2));
-    guest.set(REQ_PROD, 40);
+    guest.set(REQ_PROD, guest.pages.slots() + 8);
     other.post(2, FLUSH);
     assert_eq!(started(backend.turn()).name.port, port(1));
     // Copied as a flush two turns ago; drawn back, it is something else.
@@ -279,21 +342,42 @@ fn an_overrun_drawn_back_serves_the_page_as_it_is(abi: Abi) {
     assert_eq!((at, reason), (port(2), Reason::UnknownOperation));
 }
 
-fn no_request_is_copied_beyond_the_ring(abi: Abi) {
-    for (req_prod, copied) in [(32, true), (33, false), (u32::MAX, false)] {
-        let guest = Guest::new(abi);
+fn no_request_is_copied_beyond_the_ring(abi: Abi, pages: Pages) {
+    let slots = pages.slots();
+    for (req_prod, copied) in [(slots, true), (slots + 1, false), (u32::MAX, false)] {
+        let guest = Guest::new(abi, pages);
         let (mut shared, mut private) = guest.opened();
         guest.set(REQ_PROD, req_prod);
         shared.copy_in(&mut private);
-        let (slots, behind) = private[guest.slot(0).start..].split_at(32 * abi.slot_bytes());
+        let bytes = slots as usize * abi.slot_bytes();
+        let (slots, behind) = private[guest.slot_at(0)..].split_at(bytes);
         let due = if copied { PATTERN } else { 0 };
         assert!(slots.iter().all(|&byte| byte == due), "{req_prod}");
         assert!(behind.iter().all(|&byte| byte == 0), "{req_prod}");
     }
 }
 
-fn a_response_leaves_what_the_guest_wrote_meanwhile(abi: Abi) {
-    let guest = Guest::new(abi);
+/// Every byte of every slot, that of both pages too; the bytes are counted through, so that none can
+/// stand for another.
+fn every_request_of_a_full_ring_is_copied(abi: Abi, pages: Pages) {
+    let guest = Guest::new(abi, pages);
+    let (mut shared, mut private) = guest.opened();
+    let mut due = private;
+    for slot in 0..pages.slots() {
+        let bytes: Vec<u8> = (0..abi.slot_bytes())
+            .map(|at| (at as u8).wrapping_add(7 * slot as u8))
+            .collect();
+        guest.write(guest.slot_at(slot), &bytes);
+        due[guest.slot(slot)].copy_from_slice(&bytes);
+    }
+    guest.set(REQ_PROD, pages.slots());
+    write_u32(&mut due, REQ_PROD, pages.slots());
+    shared.copy_in(&mut private);
+    assert_eq!(private, due);
+}
+
+fn a_response_leaves_what_the_guest_wrote_meanwhile(abi: Abi, pages: Pages) {
+    let guest = Guest::new(abi, pages);
     let (mut shared, mut private) = guest.opened();
     guest.post(0, UNKNOWN);
     shared.copy_in(&mut private);
@@ -312,26 +396,31 @@ fn a_response_leaves_what_the_guest_wrote_meanwhile(abi: Abi) {
     assert_eq!(guest.bytes(), due);
 }
 
-/// Of a private page whose bytes are all others than the guest's, a response's bytes go out.
+/// Of a private ring whose bytes are all others than the guest's, a response's bytes go out.
 #[test]
 fn responses_by_the_numbers_of_the_rules() {
-    for (abi, slot_bytes, response_bytes) in [(Abi::Bits64, 112, 16), (Abi::Bits32, 108, 12)] {
-        let guest = Guest::new(abi);
+    for (abi, pages, slot_bytes, response_bytes, slots) in [
+        (Abi::Bits64, Pages::One, 112, 16, 32),
+        (Abi::Bits32, Pages::One, 108, 12, 32),
+        (Abi::Bits64, Pages::Two, 112, 16, 64),
+        (Abi::Bits32, Pages::Two, 108, 12, 64),
+    ] {
+        let guest = Guest::new(abi, pages);
         let (mut shared, private) = (guest.opened().0, [0xEE; RING_BYTES]);
-        for index in 0..64 {
-            let slot = 64 + slot_bytes * (index % 32);
+        for index in 0..2 * slots {
+            let slot = 64 + slot_bytes * (index % slots);
             guest.write(RSP_PROD, &[PATTERN; 4]);
             guest.write(slot, &vec![PATTERN; slot_bytes]);
             let before = guest.bytes();
             let _ = shared.copy_response_out(&private, false);
             let response = slot..slot + response_bytes;
             let due: Vec<usize> = (RSP_PROD..RSP_PROD + 4).chain(response).collect();
-            assert_eq!(guest.changed(&before), due, "{abi}, response {index}");
+            assert_eq!(guest.changed(&before), due, "{abi}, {pages}, {index}");
         }
     }
 }
 
-fn rsp_event_is_looked_at_again(abi: Abi) {
+fn rsp_event_is_looked_at_again(abi: Abi, pages: Pages) {
     for (event, said, due) in [
         (0, false, false),
         (1, false, true),
@@ -339,7 +428,7 @@ fn rsp_event_is_looked_at_again(abi: Abi) {
         (2, true, true),
         (u32::MAX, false, false),
     ] {
-        let guest = Guest::new(abi);
+        let guest = Guest::new(abi, pages);
         let (mut shared, private) = guest.opened();
         // The guest goes to sleep after the call has looked.
         guest.set(RSP_EVENT, event);
@@ -348,8 +437,8 @@ fn rsp_event_is_looked_at_again(abi: Abi) {
     }
 }
 
-fn an_idle_turn_writes_req_event_alone(abi: Abi) {
-    let (mut backend, guest) = opened(abi);
+fn an_idle_turn_writes_req_event_alone(abi: Abi, pages: Pages) {
+    let (mut backend, guest) = opened(abi, pages);
     guest.set(REQ_EVENT, 0x0202_0202);
     let before = guest.bytes();
     assert_eq!(backend.turn(), Turn::Idle);
@@ -357,8 +446,8 @@ fn an_idle_turn_writes_req_event_alone(abi: Abi) {
     assert_eq!(guest.changed(&before), [4, 5, 6, 7]);
 }
 
-fn turns_and_completions_through_a_live_page(abi: Abi) {
-    let (mut backend, guest) = opened(abi);
+fn turns_and_completions_through_a_live_ring(abi: Abi, pages: Pages) {
+    let (mut backend, guest) = opened(abi, pages);
     guest.post(0, UNKNOWN);
     guest.post(1, FLUSH);
     guest.set(RSP_EVENT, 2);
@@ -375,7 +464,7 @@ fn turns_and_completions_through_a_live_page(abi: Abi) {
     assert_eq!(
         guest.changed(&before),
         [0; 0],
-        "a start changes no page byte"
+        "a start changes no byte of the ring"
     );
     let result = plan.expected_result();
     let stale = Name {
@@ -395,11 +484,11 @@ fn turns_and_completions_through_a_live_page(abi: Abi) {
     assert_eq!(guest.get(REQ_EVENT), 3);
 }
 
-fn a_broken_port_is_neither_read_nor_armed_but_completes(abi: Abi) {
-    let (mut backend, guest) = opened(abi);
+fn a_broken_port_is_neither_read_nor_armed_but_completes(abi: Abi, pages: Pages) {
+    let (mut backend, guest) = opened(abi, pages);
     guest.post(0, FLUSH);
     let plan = started(backend.turn());
-    guest.set(REQ_PROD, 33);
+    guest.set(REQ_PROD, pages.slots() + 1);
     assert_eq!(backend.turn(), Turn::Overrun(port(2)));
     let before = guest.bytes();
     assert_eq!(backend.turn(), Turn::Idle);
@@ -408,16 +497,16 @@ fn a_broken_port_is_neither_read_nor_armed_but_completes(abi: Abi) {
     let done = backend.complete(plan.name, -5);
     assert_eq!(done.unwrap().status, Status::Error);
     assert_eq!(guest.get(RSP_PROD), 1);
-    let page = backend.close(port(2)).unwrap();
-    // Opened anew over the same page, all counts start from 0.
+    let ring = backend.close(port(2)).unwrap();
+    // Opened anew over the same ring, all counts start from 0.
     guest.set(RSP_PROD, 0);
     guest.post(0, FLUSH);
-    backend.open(port(2), &guest.sheet(), page).unwrap();
+    backend.open(port(2), &guest.sheet(), ring).unwrap();
     assert_eq!(started(backend.turn()).name.serial, Serial(0));
 }
 
 #[test]
-fn a_closed_port_has_no_page() {
+fn a_closed_port_has_no_ring() {
     let mut backend = LiveBackend::new().unwrap();
     assert_eq!(backend.close(port(0)).unwrap_err(), Refusal::IsClosed);
     let name = Name {
@@ -429,9 +518,9 @@ fn a_closed_port_has_no_page() {
     assert_eq!(backend.turn(), Turn::Idle);
 }
 
-fn every_slot_comes_round(abi: Abi) {
-    let (mut backend, guest) = opened(abi);
-    for index in 0..100 {
+fn every_slot_comes_round(abi: Abi, pages: Pages) {
+    let (mut backend, guest) = opened(abi, pages);
+    for index in 0..3 * pages.slots() + 4 {
         guest.set(RSP_EVENT, index + 1);
         guest.post(index, FLUSH);
         let plan = started(backend.turn());
@@ -439,17 +528,37 @@ fn every_slot_comes_round(abi: Abi) {
         let done = backend.complete(plan.name, 0);
         assert!(done.unwrap().notify);
         assert_eq!(guest.get(RSP_PROD), index + 1);
-        assert_eq!(guest.bytes()[abi.slot_at(index)], index as u8);
+        assert_eq!(guest.bytes()[guest.slot_at(index)], index as u8);
     }
 }
 
-fn a_port_is_metered_across_openings(abi: Abi) {
-    let (mut backend, mut guest) = opened(abi);
+/// As many requests in flight as the ring has slots, each with its tag; the next is one too many.
+#[test]
+fn a_ring_full_of_started_requests() {
+    for (abi, pages) in [(Abi::Bits64, Pages::Two), (Abi::Bits32, Pages::Two)] {
+        let (mut backend, guest) = opened(abi, pages);
+        (0..64).for_each(|index| guest.post(index, FLUSH));
+        let plans: Vec<Plan> = (0..64).map(|_| started(backend.turn())).collect();
+        assert!((0..)
+            .zip(&plans)
+            .all(|(tag, plan)| plan.name.tag == Tag(tag)));
+        assert_eq!(backend.turn(), Turn::Idle);
+        for (index, plan) in (0..).zip(plans.iter().rev()) {
+            assert_eq!(backend.complete(plan.name, 0).unwrap().status, Status::Okay);
+            assert_eq!(guest.bytes()[guest.slot_at(index)], 63 - index as u8);
+        }
+        guest.set(REQ_PROD, 64 + 65);
+        assert_eq!(backend.turn(), Turn::Overrun(port(2)));
+    }
+}
+
+fn a_port_is_metered_across_openings(abi: Abi, pages: Pages) {
+    let (mut backend, mut guest) = opened(abi, pages);
     guest.post(0, UNKNOWN);
     let _ = backend.turn();
     guest.post(1, FLUSH);
     let plan = started(backend.turn());
-    guest.set(REQ_PROD, 40);
+    guest.set(REQ_PROD, pages.slots() + 8);
     assert_eq!(backend.turn(), Turn::Overrun(port(2)));
     assert_eq!(backend.meter(port(2)), Meter::of([2, 0, 0, 1]));
     // Idle, so that it takes two looks; and a completion that is doubled.
@@ -457,11 +566,12 @@ fn a_port_is_metered_across_openings(abi: Abi) {
     backend.complete(plan.name, 0).map(drop).unwrap();
     let doubled = backend.complete(plan.name, 0);
     assert_eq!(doubled, Err(Refusal::NotBusy));
-    let page = backend.close(port(2)).unwrap();
+    backend.close(port(2)).map(drop).unwrap();
     guest = guest.other();
     guest.set(RSP_PROD, 0);
     guest.post(0, FLUSH);
-    backend.open(port(2), &guest.sheet(), page).unwrap();
+    let ring = guest.share();
+    backend.open(port(2), &guest.sheet(), ring).unwrap();
     let plan = started(backend.turn());
     assert_eq!(backend.take_meter(port(2)), Meter::of([3, 1, 0, 1]));
     backend.complete(plan.name, -5).map(drop).unwrap();
@@ -469,10 +579,13 @@ fn a_port_is_metered_across_openings(abi: Abi) {
     assert_eq!(backend.meter(port(2)), Meter::default());
 }
 
-/// Requests copied, taken and answered in one layout leave nothing for a port opened in the other.
-fn nothing_of_the_other_layout_stays(abi: Abi) {
-    let earlier = Guest::new(abi).other();
-    let (mut shared, mut private) = earlier.opened();
+/// Requests copied, taken and answered in a ring of one kind leave nothing for a port opened over the same
+/// pages with the other layout and size.
+fn nothing_of_another_ring_stays(abi: Abi, pages: Pages) {
+    let guest = Guest::new(abi, pages);
+    let earlier = guest.other();
+    let (mut shared, mut private) = (earlier.share_all(), [PATTERN; RING_BYTES]);
+    shared.restart(earlier.abi, earlier.pages, &mut private);
     for index in 0..3 {
         earlier.post(index, 1);
     }
@@ -481,8 +594,7 @@ fn nothing_of_the_other_layout_stays(abi: Abi) {
     let _ = shared.copy_response_out(&private, false);
     shared.overran();
 
-    let guest = earlier.other();
-    shared.restart(abi, &mut private);
+    shared.restart(abi, pages, &mut private);
     assert_eq!(private, [0; RING_BYTES]);
     guest.post(0, 2);
     shared.copy_in(&mut private);
@@ -498,22 +610,25 @@ fn nothing_of_the_other_layout_stays(abi: Abi) {
     assert_eq!(guest.bytes(), due);
 }
 
-/// The same by calls: the guest connects again over its page, in the other layout.
-fn a_port_opened_anew_has_the_layout_of_its_new_sheet(abi: Abi) {
-    let (mut backend, guest) = opened(abi);
+/// The same by calls: the guest connects again over its pages, with the other layout and size.
+fn a_port_opened_anew_has_the_ring_of_its_new_sheet(abi: Abi, pages: Pages) {
+    let (mut backend, guest) = (LiveBackend::new().unwrap(), Guest::new(abi, pages));
+    let ring = guest.share_all();
+    backend.open(port(2), &guest.sheet(), ring).unwrap();
     for index in 0..3 {
         guest.post(index, FLUSH);
         let plan = started(backend.turn());
         backend.complete(plan.name, 0).map(drop).unwrap();
     }
-    let page = backend.close(port(2)).unwrap();
+    let ring = backend.close(port(2)).unwrap();
     let guest = guest.other();
     guest.set(RSP_PROD, 0);
-    for index in 0..2 {
+    let requests = guest.pages.slots();
+    for index in 0..requests {
         guest.post(index, FLUSH);
     }
-    backend.open(port(2), &guest.sheet(), page).unwrap();
-    for index in 0..2 {
+    backend.open(port(2), &guest.sheet(), ring).unwrap();
+    for index in 0..requests {
         let plan = started(backend.turn());
         assert_eq!(plan.name.serial, Serial(index));
         let mut due = guest.bytes();
@@ -525,4 +640,59 @@ fn a_port_opened_anew_has_the_layout_of_its_new_sheet(abi: Abi) {
         assert_eq!(guest.bytes(), due);
     }
     assert_eq!(backend.turn(), Turn::Idle);
+}
+
+/// A port opened for one page over two: whatever is in the second, nothing of it comes in, and nothing
+/// goes out there.
+#[test]
+fn one_page_of_two_leaves_the_second_alone() {
+    for abi in Abi::ALL {
+        let guest = Guest::new(abi, Pages::One);
+        let mut backend = LiveBackend::new().unwrap();
+        backend
+            .open(port(2), &guest.sheet(), guest.share_all())
+            .unwrap();
+        for index in 0..70 {
+            guest.write(PAGE_BYTES, &[index as u8; PAGE_BYTES]);
+            guest.post(index, FLUSH);
+            let plan = started(backend.turn());
+            backend.complete(plan.name, 0).map(drop).unwrap();
+            assert_eq!(backend.turn(), Turn::Idle);
+            assert_eq!(guest.bytes()[PAGE_BYTES..], [index as u8; PAGE_BYTES]);
+        }
+        let (mut shared, mut private) = (guest.share_all(), [PATTERN; RING_BYTES]);
+        shared.restart(abi, Pages::One, &mut private);
+        guest.set(REQ_PROD, 32);
+        shared.copy_in(&mut private);
+        assert_eq!(private[PAGE_BYTES..], [0; PAGE_BYTES]);
+    }
+}
+
+/// Told before anything has happened, also before a refusal; the port is closed as it was.
+#[test]
+fn a_ring_with_fewer_pages_than_the_sheet_says() {
+    for abi in Abi::ALL {
+        let (mut backend, guest) = (LiveBackend::new().unwrap(), Guest::new(abi, Pages::Two));
+        let one_page = Guest {
+            pages: Pages::One,
+            ..guest
+        };
+        let before = guest.bytes();
+        let told = backend.open(port(2), &guest.sheet(), one_page.share());
+        assert_eq!(told, Err(NotOpened::TooFewPages));
+        assert_eq!(backend.close(port(2)).unwrap_err(), Refusal::IsClosed);
+        assert_eq!(guest.changed(&before), [0; 0]);
+        assert_eq!(backend.turn(), Turn::Idle);
+        let ring = guest.share();
+        backend.open(port(2), &guest.sheet(), ring).unwrap();
+        let told = backend.open(port(2), &guest.sheet(), one_page.share());
+        assert_eq!(told, Err(NotOpened::TooFewPages));
+        guest.post(0, FLUSH);
+        assert_eq!(started(backend.turn()).name.serial, Serial(0));
+        let told = backend.open(port(2), &guest.sheet(), guest.share());
+        let fault: Box<dyn std::error::Error> = Box::new(told.unwrap_err());
+        assert_eq!(fault.to_string(), "refusal 3: port not closed");
+    }
+    let told = NotOpened::TooFewPages.to_string();
+    assert_eq!(told, "a ring of two pages, of which one is mapped");
 }

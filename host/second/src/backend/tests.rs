@@ -2,15 +2,20 @@
 
 use super::*;
 use crate::answers::Turned;
-use crate::layout::{read_u32, Layout, REQ_PROD, RSP_PROD};
+use crate::layout::{read_u32, Layout, ONE_PAGE_SLOTS, REQ_PROD, RSP_PROD, TWO_PAGE_SLOTS};
 use crate::sheet::Disk;
 use crate::terms::{Reason, Status};
 
-const LAYOUTS: [Layout; 2] = [Layout::BITS_64, Layout::BITS_32];
+/// A ring of each layout and size.
+const RINGS: [Disk; 4] = [
+    disk(Layout::BITS_64, ONE_PAGE_SLOTS),
+    disk(Layout::BITS_32, ONE_PAGE_SLOTS),
+    disk(Layout::BITS_64, TWO_PAGE_SLOTS),
+    disk(Layout::BITS_32, TWO_PAGE_SLOTS),
+];
 
-/// A backend whose port 0 stands at C = R = `index`.
-fn backend_at(layout: Layout, index: u32) -> Backend {
-    let disk = Disk {
+const fn disk(layout: Layout, slots: u32) -> Disk {
+    Disk {
         writable: true,
         barrier: false,
         flush: true,
@@ -19,12 +24,15 @@ fn backend_at(layout: Layout, index: u32) -> Backend {
         sector_size: 512,
         sectors: 2008,
         layout,
-    };
-    let mut session = Session::new(disk);
-    session.taken = index;
-    session.answered = index;
+        slots,
+    }
+}
+
+/// A backend whose port 0 stands at C = R = `index`.
+fn backend_at(disk: &Disk, index: u32) -> Backend {
     let mut backend = Backend::new();
-    backend.ports[0] = Port::Open(Box::new(session));
+    backend.ports[0] = Port::Open(Box::new(Session::new(disk.clone())));
+    backend.skip(0, index);
     backend
 }
 
@@ -32,12 +40,17 @@ fn buffers() -> (Vec<u8>, Vec<u8>) {
     (vec![0; RINGS_BYTES], vec![0; GRANTS_BYTES])
 }
 
+/// Where the last slot begins: that of index 2^32 - 1, as 2^32 is a multiple of both sizes.
+fn last_slot(disk: &Disk) -> usize {
+    64 + disk.layout.slot_bytes * (disk.slots as usize - 1)
+}
+
 #[test]
 fn answered_at_the_wrap() {
-    for layout in LAYOUTS {
+    for disk in RINGS {
         let (mut rings, grants) = buffers();
-        let mut backend = backend_at(layout, u32::MAX);
-        rings[layout.slot_at(31)] = 9;
+        let mut backend = backend_at(&disk, u32::MAX);
+        rings[last_slot(&disk)] = 9;
         let turned = backend.turn(&mut rings, &grants);
         let answer = Turned::Answered {
             port: 0,
@@ -47,9 +60,9 @@ fn answered_at_the_wrap() {
         };
         assert_eq!(turned, Ok(answer));
         assert_eq!(read_u32(&rings, RSP_PROD), 0);
-        assert_eq!(rings[layout.slot_at(31) + 8], 9);
+        assert_eq!(rings[last_slot(&disk) + 8], 9);
         assert_eq!(backend, {
-            let mut after = backend_at(layout, 0);
+            let mut after = backend_at(&disk, 0);
             after.pointer = 1;
             after
         });
@@ -58,16 +71,16 @@ fn answered_at_the_wrap() {
 
 #[test]
 fn started_at_the_wrap() {
-    for layout in LAYOUTS {
+    for disk in RINGS {
         let (mut rings, grants) = buffers();
-        let mut backend = backend_at(layout, u32::MAX);
-        rings[layout.slot_at(31)] = 3;
+        let mut backend = backend_at(&disk, u32::MAX);
+        rings[last_slot(&disk)] = 3;
         let Ok(Turned::Started(plan)) = backend.turn(&mut rings, &grants) else {
             panic!("a flush starts")
         };
         assert_eq!((plan.tag, plan.serial), (0, u32::MAX));
-        // One in flight: req_prod may run 31 ahead of C = 0, no further.
-        write_u32(&mut rings, REQ_PROD, 32);
+        // One in flight: req_prod may run one less than a ring ahead of C = 0, no further.
+        write_u32(&mut rings, REQ_PROD, disk.slots);
         let overrun = backend.clone().turn(&mut rings, &grants);
         assert_eq!(overrun, Ok(Turned::Overrun { port: 0 }));
         let named = Completion {
@@ -79,15 +92,15 @@ fn started_at_the_wrap() {
         let done = backend.complete(&mut rings, named);
         assert_eq!(done.map(|done| done.status), Ok(Status::Okay));
         assert_eq!(read_u32(&rings, RSP_PROD), 0);
-        assert_eq!(rings[layout.slot_at(31) + 8], 3);
+        assert_eq!(rings[last_slot(&disk) + 8], 3);
     }
 }
 
 #[test]
 fn idle_at_the_wrap() {
-    for layout in LAYOUTS {
+    for disk in RINGS {
         let (mut rings, grants) = buffers();
-        let mut backend = backend_at(layout, u32::MAX);
+        let mut backend = backend_at(&disk, u32::MAX);
         write_u32(&mut rings, REQ_PROD, u32::MAX);
         write_u32(&mut rings, REQ_EVENT, 77);
         assert_eq!(backend.turn(&mut rings, &grants), Ok(Turned::Idle));

@@ -15,7 +15,7 @@ fn guest_at(put: u32, collected: u32, outstanding: &[(u64, u8)]) -> Guest {
 
 /// A page of one byte all over, with these indices in its header.
 fn page_of(byte: u8, header: [u32; 4]) -> Vec<u8> {
-    let mut page = vec![byte; RING_BYTES];
+    let mut page = vec![byte; PAGE_BYTES];
     for (at, value) in [REQ_PROD, REQ_EVENT, RSP_PROD, RSP_EVENT]
         .into_iter()
         .zip(header)

@@ -18,8 +18,8 @@ status-of-requires c κs = search needs
 respond-requires : tie.Need-respond-requires
 respond-requires c κs = search needs
 
-cast-t17 : tie.Need-cast-t17
-cast-t17 c = search needs
+cast-t18 : tie.Need-cast-t18
+cast-t18 c = search needs
 
 same-length : tie.Need-same-length
 same-length c = search needs
@@ -41,4 +41,4 @@ returns c =
 pub finish-spec : {M : Type 1} → statement M
 finish-spec =
     tie.close
-    (tie.spec release-requires status-of-requires respond-requires cast-t17 same-length returns)
+    (tie.spec release-requires status-of-requires respond-requires cast-t18 same-length returns)

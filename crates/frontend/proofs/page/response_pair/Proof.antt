@@ -12,11 +12,11 @@ slot-at-requires c κs = search needs
 u64-at-requires : tie.Need-u64-at-requires
 u64-at-requires c κs = omega (arith, slot-room (c .before .before .args .i))
 
-add-t6 : tie.Need-add-t6
-add-t6 c = omega (arith, slot-room (c .before .before .before .args .i))
+add-t7 : tie.Need-add-t7
+add-t7 c = omega (arith, slot-room (c .before .before .before .args .i))
 
-shared-slice-read-t8 : tie.Need-shared-slice-read-t8
-shared-slice-read-t8 c = omega (arith, slot-room (c .before .before .before .before .args .i))
+shared-slice-read-t9 : tie.Need-shared-slice-read-t9
+shared-slice-read-t9 c = omega (arith, slot-room (c .before .before .before .before .args .i))
 
 returns : tie.Need-returns
 unfolding responsePair
@@ -24,4 +24,4 @@ returns c = rw (c .before .u64-at .ensures, c .before .before .slot-at .ensures)
 
 pub response-pair-spec : {M : Type 1} → statement M
 response-pair-spec =
-    tie.close (tie.spec slot-at-requires u64-at-requires add-t6 shared-slice-read-t8 returns)
+    tie.close (tie.spec slot-at-requires u64-at-requires add-t7 shared-slice-read-t9 returns)

@@ -1,6 +1,7 @@
 -- `lines::output::changed` is safe and ends. The measure is the bytes that are left. Assumes nothing.
 use borrow.Author.Needs.{needs}
 use Prim.Native.Nat.{_-_}
+use Rattle.model.specs.Buffers.{ringsLength}
 use Rattle.lines.proofs.output.changed.Statement.{statement}
 use Rattle.lines.proofs.output.changed.Tie as tie
 
@@ -8,7 +9,7 @@ abbrev Inv-loop : tie.InvT-loop
 Inv-loop shown₀ rings i₀ shown i = Unit {0}
 
 abbrev μ-loop : tie.MeasureT-loop
-μ-loop shown₀ rings i₀ shown i = 32768 - i
+μ-loop shown₀ rings i₀ shown i = ringsLength - i
 
 loop-holds : tie.Need-loop-holds Inv-loop μ-loop
 loop-holds c = search needs

@@ -15,6 +15,9 @@ sector-of-requires c κs = search needs
 abi-requires : tie.Need-abi-requires
 abi-requires c κs = search needs
 
+pages-requires : tie.Need-pages-requires
+pages-requires c κs = search needs
+
 flag-requires : tie.Need-flag-requires
 flag-requires c κs = search needs
 
@@ -37,10 +40,11 @@ returns : tie.Need-returns
 unfolding paramsFrom portFrom portAt
 returns c =
     let f = c .before .before .before .before .before in
-    let s = f .before .before in
+    let s = f .before .before .before in
     let a = s .before .before .args in
     rw (
-      f .before .abi .ensures,
+      f .before .pages .ensures,
+      f .before .before .abi .ensures,
       backend-port-at (a .m .now) (a .k) (omega arith),
       c .word2 .ensures,
       c .before .flag5 .ensures,
@@ -59,6 +63,7 @@ params-spec =
     word-requires
     sector-of-requires
     abi-requires
+    pages-requires
     flag-requires
     flag-requires-2
     flag-requires-3

@@ -27,20 +27,24 @@ sector-word-requires c κs = search needs
 abi-word-requires : tie.Need-abi-word-requires
 abi-word-requires c κs = search needs
 
-cast-t14 : tie.Need-cast-t14
-cast-t14 c = search needs
+pages-word-requires : tie.Need-pages-word-requires
+pages-word-requires c κs = search needs
 
-cast-t15 : tie.Need-cast-t15
-cast-t15 c = search needs
+cast-t16 : tie.Need-cast-t16
+cast-t16 c = search needs
+
+cast-t17 : tie.Need-cast-t17
+cast-t17 c = search needs
 
 returns : tie.Need-returns
 returns c =
     let b = c .before .before in
-    let f = b .before .before in
+    let f = b .before .before .before in
     let s = f .before .before .before .before .before in
     rw (
-      b .abi-word .ensures,
-      b .before .sector-word .ensures,
+      b .pages-word .ensures,
+      b .before .abi-word .ensures,
+      b .before .before .sector-word .ensures,
       f .flag-word5 .ensures,
       f .before .flag-word4 .ensures,
       f .before .before .flag-word3 .ensures,
@@ -61,6 +65,7 @@ words-of-spec =
     flag-word-requires-5
     sector-word-requires
     abi-word-requires
-    cast-t14
-    cast-t15
+    pages-word-requires
+    cast-t16
+    cast-t17
     returns)

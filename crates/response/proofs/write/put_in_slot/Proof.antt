@@ -13,7 +13,8 @@ put-fields-requires : tie.Need-put-fields-requires
 unfolding ringFor
 put-fields-requires c κs =
     let a = c .before .before .before .args in
-    omega (arith, slotAt-room (ringFor (a .abi)) (fits-for (a .abi)) (a .produced), fits-for (a .abi) .responseRoom)
+    let f = fits-for (a .abi) (a .pages) in
+    omega (arith, slotAt-room (ringFor (a .abi) (a .pages)) f (a .produced), f .responseRoom)
 
 same-length : tie.Need-same-length
 same-length c = search needs

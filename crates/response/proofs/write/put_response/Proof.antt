@@ -1,5 +1,6 @@
 -- `response::write::put_response` meets its contract: each arm has the layout that it was told. Assumes nothing.
 use borrow.Author.Needs.{needs}
+use Rattle.model.specs.Ring.{ringFor}
 use Rattle.response.proofs.write.put_response.Statement.{statement}
 use Rattle.response.proofs.write.put_response.Tie as tie
 
@@ -7,12 +8,14 @@ enum-told : tie.Need-enum-told
 enum-told c = search needs
 
 put-in-slot-requires : tie.Need-put-in-slot-requires
+unfolding ringFor
 put-in-slot-requires c κs = search needs
 
 enum-told-2 : tie.Need-enum-told-2
 enum-told-2 c = search needs
 
 put-in-slot-requires-2 : tie.Need-put-in-slot-requires-2
+unfolding ringFor
 put-in-slot-requires-2 c κs = search needs
 
 same-length : tie.Need-same-length

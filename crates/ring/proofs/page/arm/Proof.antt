@@ -1,8 +1,8 @@
--- `ring::page::arm` meets its contract: a store in the rings is a store in the page put back (Pages). Assumes nothing.
+-- `ring::page::arm` meets its contract: a store in the rings is a store in the page put back (the model's Page). Assumes nothing.
 use borrow.Author.Needs.{needs}
 use native.Mathlib.Omega.{arith}
 use Rattle.model.specs.Port.{after}
-use Rattle.ring.proofs.Pages.{req-event-at}
+use Rattle.model.proofs.Page.{req-event-at}
 use Rattle.ring.proofs.page.arm.Statement.{statement}
 use Rattle.ring.proofs.page.arm.Tie as tie
 
@@ -22,10 +22,10 @@ same-length : tie.Need-same-length
 same-length c = search needs
 
 returns : tie.Need-returns
-returns c =
+returns c g room within =
     let a = c .before .before .before .before .before .before .args in
     rw (c .before .before .put-u32 .ensures, c .before .before .before .next-index .ensures)
-    (req-event-at (a .rings .now) (a .k) (omega arith) (omega arith) (after (a .consumed)))
+    (req-event-at g room within (a .rings .now) (a .k) (omega arith) (omega arith) (after (a .consumed)))
 
 pub arm-spec : {M : Type 1} → statement M
 arm-spec =

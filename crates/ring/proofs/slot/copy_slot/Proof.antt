@@ -2,6 +2,7 @@
 use borrow.Author.Needs.{needs}
 use native.Mathlib.Omega.{arith}
 use Rattle.model.specs.Ring.{ringFor}
+use Rattle.model.specs.declared.Pages.{Pages}
 use Rattle.model.proofs.Ring.{fits-for}
 use Rattle.ring.proofs.Copy.{slot-copied}
 use Rattle.ring.proofs.slot.copy_slot.Statement.{statement}
@@ -12,7 +13,7 @@ slice-aggregate-copy-bytes c = search needs
 
 copy-bytes-requires : tie.Need-copy-bytes-requires
 unfolding ringFor
-copy-bytes-requires c κs = (omega (arith, fits-for (c .before .before .args .abi) .slotEnd), omega arith)
+copy-bytes-requires c κs = (omega (arith, fits-for (c .before .before .args .abi) Pages.One .slotEnd), omega arith)
 
 id-at-requires : tie.Need-id-at-requires
 id-at-requires c κs = search needs
@@ -27,7 +28,7 @@ copy-bytes-requires-2 : tie.Need-copy-bytes-requires-2
 unfolding ringFor
 copy-bytes-requires-2 c κs =
     let a = c .before .before .before .before .before .before .args in
-    (omega (arith, c .before .id-at .ensures .0, fits-for (a .abi) .slotEnd), omega arith)
+    (omega (arith, c .before .id-at .ensures .0, fits-for (a .abi) Pages.One .slotEnd), omega arith)
 
 returns : tie.Need-returns
 returns c =

@@ -35,7 +35,7 @@ add-result c = record { fits = omega (arith, behind c) }
 
 returns : tie.Need-returns
 unfolding slotAt ringFor
-returns c = rw (c .before .slot-size .ensures .0, c .ring-size .ensures .0)
+returns c = rw (c .before .slot-size .ensures .0, c .ring-size .ensures .0 (c .before .before .args .abi))
 
 pub slot-at-spec : {M : Type 1} → statement M
 slot-at-spec =

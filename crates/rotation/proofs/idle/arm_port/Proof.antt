@@ -1,5 +1,8 @@
 -- `rotation::idle::arm_port` meets its contract, by the state of the port. Assumes nothing.
 use borrow.Author.Needs.{needs}
+use Rattle.model.specs.Backend.{viewOf}
+use Rattle.model.specs.Turn.{ringAt}
+use Rattle.model.proofs.Ring.{fits, header-room}
 use Rattle.memory.specs.Backend.{backendOf}
 use Rattle.model.proofs.View.{view-state, view-consumed}
 use Rattle.rotation.proofs.idle.arm_port.Statement.{statement}
@@ -35,7 +38,10 @@ returns-2 c =
     let told = armed .before .before in
     let at = told .before .before in
     let a = at .before .before .args in
-    rw (view-state (backendOf (a .memory .now)) (a .k), view-consumed (backendOf (a .memory .now)) (a .k), ← at .port-at .ensures, told .enum-told2 .given .1) (armed .arm .ensures)
+    let v = viewOf (backendOf (a .memory .now)) in
+    let f = fits (v .params (a .k)) in
+    rw (view-state (backendOf (a .memory .now)) (a .k), view-consumed (backendOf (a .memory .now)) (a .k), ← at .port-at .ensures, told .enum-told2 .given .1)
+    (armed .arm .ensures (ringAt v (a .k)) (header-room _ f) (f .within))
 
 returns-3 : tie.Need-returns-3
 returns-3 c =

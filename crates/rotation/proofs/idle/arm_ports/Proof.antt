@@ -8,7 +8,7 @@ use native.Mathlib.Omega.{arith}
 use lib.ListN.{length}
 use Rattle.model.specs.Backend.{viewOf}
 use Rattle.model.specs.Buffers.{ports, ringsLength}
-use Rattle.model.specs.Turn.{armed, armedPort}
+use Rattle.model.specs.Turn.{armed, armedPort, ringAt}
 use Rattle.memory.specs.Backend.{backendOf}
 use Rattle.rotation.proofs.idle.arm_ports.Statement.{statement}
 use Rattle.rotation.proofs.idle.arm_ports.Tie as tie
@@ -41,7 +41,7 @@ loop-again c =
     let done = c .before .before in
     let l = done .before .before .before .loop in
     let a = done .before .before .before .before .before .args in
-    (omega arith, omega (arith, l .inv .1), rw add-one (done .arm-port .ensures ∙ ap (λ (r : List ℕ). armedPort (viewOf (backendOf (a .memory .now)) .state (l .k)) r (l .k) (viewOf (backendOf (a .memory .now)) .consumed (l .k))) (l .inv .2)))
+    (omega arith, omega (arith, l .inv .1), rw add-one (done .arm-port .ensures ∙ ap (λ (r : List ℕ). armedPort (ringAt (viewOf (backendOf (a .memory .now))) (l .k)) (viewOf (backendOf (a .memory .now)) .state (l .k)) r (l .k) (viewOf (backendOf (a .memory .now)) .consumed (l .k))) (l .inv .2)))
 
 same-length : tie.Need-same-length Inv-loop μ-loop
 same-length c = search needs

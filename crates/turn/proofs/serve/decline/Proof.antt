@@ -1,5 +1,5 @@
--- `turn::serve::decline` meets its contract, by the response given and three writes of the memory. The layout and R are read after the first write, which left
--- them as they were. Assumes nothing.
+-- `turn::serve::decline` meets its contract, by the response given and three writes of the memory. What the ring is and R are read after the first write, which
+-- left them as they were. Assumes nothing.
 use borrow.Author.Needs.{needs}
 use mathlib.Core.Path.{_≡_, _∙_, ap}
 use Rattle.model.specs.Port.{after}
@@ -18,6 +18,9 @@ set-consumed-requires c κs = search needs
 abi-requires : tie.Need-abi-requires
 abi-requires c κs = search needs
 
+pages-requires : tie.Need-pages-requires
+pages-requires c κs = search needs
+
 produced-requires : tie.Need-produced-requires
 produced-requires c κs = search needs
 
@@ -33,8 +36,8 @@ set-produced-requires c κs = search needs
 advance-requires : tie.Need-advance-requires
 advance-requires c κs = search needs
 
-cast-t13 : tie.Need-cast-t13
-cast-t13 c = search needs
+cast-t14 : tie.Need-cast-t14
+cast-t14 c = search needs
 
 same-length : tie.Need-same-length
 same-length c = search needs
@@ -45,7 +48,8 @@ returns c =
     let raised = produced .before in
     let given = raised .before .before .before .before in
     let read = given .before .before in
-    let kind = read .before .before in
+    let many = read .before .before in
+    let kind = many .before .before in
     let consumed = kind .before .before in
     let took = consumed .before in
     let start = took .before .before .before in
@@ -54,9 +58,10 @@ returns c =
     let port = consumed-raised (a .k) (took .next-index .result) (a .p) o (consumed .set-consumed .ensures) in
     let next : read .produced .result ≡ a .p .produced = rw port at (read .produced .ensures) in
     let layout : kind .abi .result ≡ a .p .params .abi = rw port at (kind .abi .ensures) in
+    let pages : many .pages .result ≡ a .p .params .pages = rw port at (many .pages .ensures) in
     record {
-      rings = rw (view-responded (backendOf (a .memory .now)) (a .k) (a .rings .now) (a .pair) (a .status), ← o .read) (rw (next, layout) at (given .respond .ensures .rings));
-      answer = rw (view-notifies (backendOf (a .memory .now)) (a .k) (a .rings .now), ← o .read, rw next at (given .respond .ensures .notify));
+      rings = rw (view-responded (backendOf (a .memory .now)) (a .k) (a .rings .now) (a .pair) (a .status), ← o .read) (rw (next, layout, pages) at (given .respond .ensures .rings));
+      answer = rw (view-notifies (backendOf (a .memory .now)) (a .k) (a .rings .now), ← o .read, rw (next, layout, pages) at (given .respond .ensures .notify));
       memory =
           answered (a .k) (took .next-index .result) (raised .next-index2 .result) (a .p) o (took .next-index .ensures) (raised .next-index2 .ensures ∙ ap after next)
           (consumed .set-consumed .ensures) (produced .set-produced .ensures) (c .advance .ensures);
@@ -69,11 +74,12 @@ decline-spec =
     next-index-requires
     set-consumed-requires
     abi-requires
+    pages-requires
     produced-requires
     respond-requires
     next-index-requires-2
     set-produced-requires
     advance-requires
-    cast-t13
+    cast-t14
     same-length
     returns)

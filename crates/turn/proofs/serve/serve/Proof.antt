@@ -1,11 +1,11 @@
 -- `turn::serve::serve` meets its contract, by what req_prod says. Assumes nothing.
 use borrow.Author.Needs.{needs}
 use borrow.Author.Tests.{ltb-true, ltb-false}
-use mathlib.Core.Path.{_≡_, refl, sym, _∙_}
+use mathlib.Core.Path.{_≡_, refl, sym, ap, _∙_}
 use Prim.Native.Nat.{_+_}
 use lib.Dec.{ltb}
 use Rattle.model.specs.Port.{distance, inFlightOf}
-use Rattle.model.specs.Ring.{ringOf}
+use Rattle.model.specs.Ring.{ringFor, ringOf}
 use Rattle.memory.specs.Backend.{backendOf}
 use Rattle.turn.proofs.Taking.{some, waits-room, waits-served, overrun-served}
 use Rattle.turn.proofs.serve.serve.Statement.{statement}
@@ -21,7 +21,11 @@ tested : (x : tie.After-overruns)
     ≡ ltb (ringOf (backendOf (entry x .args .memory .now) .port (entry x .args .k) .params) .size)
     (distance (entry x .args .published) (backendOf (entry x .args .memory .now) .port (entry x .args .k) .consumed) + inFlightOf (backendOf (entry x .args .memory .now) .port (entry x .args .k) .busy))
 tested x =
-    rw (x .before .abi .ensures, x .before .before .before .before .before .distance .ensures, x .before .before .before .before .before .before .consumed .ensures, x .before .before .before .busy-marks .ensures) at (x .overruns .ensures)
+    let p = backendOf (entry x .args .memory .now) .port (entry x .args .k) in
+    let far = x .before .before .before .before .before in
+    let d = far .distance .ensures ∙ ap (distance (entry x .args .published)) (far .before .consumed .ensures) in
+    x .overruns .ensures (p .params .abi)
+    ∙ (λ i. ltb (ringFor (p .params .abi) (x .before .pages .ensures i) .size) (d i + inFlightOf (x .before .before .before .busy-marks .ensures i)))
 
 consumed-requires : tie.Need-consumed-requires
 consumed-requires c κs = search needs
@@ -32,8 +36,8 @@ distance-requires c κs = search needs
 busy-marks-requires : tie.Need-busy-marks-requires
 busy-marks-requires c κs = search needs
 
-abi-requires : tie.Need-abi-requires
-abi-requires c κs = search needs
+pages-requires : tie.Need-pages-requires
+pages-requires c κs = search needs
 
 overruns-requires : tie.Need-overruns-requires
 overruns-requires c κs =
@@ -99,7 +103,7 @@ serve-spec =
     consumed-requires
     distance-requires
     busy-marks-requires
-    abi-requires
+    pages-requires
     overruns-requires
     no-extents-requires
     overrun-requires

@@ -2,11 +2,15 @@
 use borrow.Author.Needs.{needs}
 use native.Mathlib.Omega.{arith}
 use native.Mathlib.Nat.{add-sub-cancel-left}
-use mathlib.Core.Path.{_≡_, refl, sym, ap, _∙_}
+use mathlib.Core.Path.{_≡_, refl, sym, ap, _∙_, subst}
+use Prim.Native.Nat.{_+_, _*_, _≤_}
+use lib.ListN.{length}
 use Rattle.wire.specs.Part.{part}
-use Rattle.model.specs.Buffers.{grantsOf}
+use Rattle.model.specs.Buffers.{ringShare, grantsOf}
 use Rattle.model.specs.Plan.{wordsBeside}
-use Rattle.model.specs.Ring.{ringOf, slotAt}
+use Rattle.model.specs.Ring.{layoutOf, ringOf, slotAt}
+use Rattle.model.specs.declared.Abi.{Abi}
+use Rattle.model.specs.declared.Port.{Port}
 use Rattle.layout.specs.Copy.{requestIn}
 use Rattle.request.proofs.Expected.{expected-fits}
 use Rattle.ring.proofs.Copy.{request-copied}
@@ -18,18 +22,19 @@ use Rattle.turn.proofs.serve.take.Tie as tie
 
 -- where the function began
 abbrev entry : tie.After-port-at → tie.Start
-entry x = x .before .before .before .before .before .before .before .before .before .before .before .before
+entry x = x .before .before .before .before .before .before .before .before .before .before .before
 
 -- where the slot is, by the port's fields
-placed-at : (x : tie.After-port-at) → x .before .before .before .before .slot-at .result ≡ slotAt (ringOf (x .port-at .result .params)) (x .port-at .result .consumed)
+placed-at : (x : tie.After-port-at)
+    → x .before .before .before .before .before .before .next-slot .result ≡ ringShare * entry x .args .k + slotAt (ringOf (x .port-at .result .params)) (x .port-at .result .consumed)
 placed-at x =
-    let placed = x .before .before .before .before in
-    rw (x .port-at .ensures, ← x .before .before .before .before .before .abi .ensures, ← x .before .before .before .before .before .before .before .consumed .ensures) (placed .slot-at .ensures)
+    x .before .before .before .before .before .before .next-slot .ensures
+    ∙ ap (λ (p : Port). ringShare * entry x .args .k + slotAt (ringOf (p .params)) (p .consumed)) (sym (x .port-at .ensures))
 
 -- the copy has the request of that slot
 asked : (x : tie.After-port-at) → requestIn (x .before .before .copy-slot .result) ≡ lentRequest (entry x .args .rings .now) (entry x .args .k) (x .port-at .result)
 asked x =
-    let kind = x .before .before .before .before .before in
+    let kind = x .before .before .before in
     let e : kind .abi .result ≡ x .port-at .result .params .abi = rw (x .port-at .ensures) (kind .abi .ensures) in
     rw (e, placed-at x) at (request-copied (kind .abi .result) _ _ (x .before .before .copy-slot .ensures))
 
@@ -37,34 +42,20 @@ asked x =
 own : (x : tie.After-port-at) → Reads (backendOf (entry x .args .memory .now)) (entry x .args .k) (x .port-at .result)
 own x = record { port = entry x .pre .0 .reads .port; read = x .port-at .ensures }
 
-consumed-requires : tie.Need-consumed-requires
-consumed-requires c κs = search needs
+next-slot-requires : tie.Need-next-slot-requires
+next-slot-requires c κs = search needs
 
 abi-requires : tie.Need-abi-requires
 abi-requires c κs = search needs
 
-mul-at : tie.Need-mul-at
-mul-at c = search needs
-
-slot-at-requires : tie.Need-slot-at-requires
-slot-at-requires c κs = search needs
-
-add-at : tie.Need-add-at
-add-at c =
-    let kind = c .before in
-    let read = kind .before .before in
-    let start = read .before .before .before .before .before in
-    let h = start .pre .0 .reads .port in
-    record { fits = omega (arith, h, c .slot-at .ensures, slot-within (kind .abi .result) (read .consumed .result)) }
-
 copy-slot-requires : tie.Need-copy-slot-requires
 copy-slot-requires c κs =
-    let placed = c .before in
-    let kind = placed .before in
-    let read = kind .before .before in
-    let start = read .before .before .before .before .before in
+    let placed = c .before .before .before in
+    let start = placed .before .before .before .before .before in
     let h = start .pre .0 .reads .port in
-    omega (arith, h, start .pre .1 .pages, placed .slot-at .ensures, slot-within (kind .abi .result) (read .consumed .result))
+    let p = backendOf (start .args .memory .now) .port (start .args .k) in
+    subst (λ (a : Abi). placed .next-slot .result + layoutOf a .slotSize ≤ length (start .args .rings .now)) (sym (c .abi .ensures))
+    (omega (arith, h, start .pre .1 .pages, placed .next-slot .ensures, slot-within (p .params .abi) (p .params .pages) (p .consumed)))
 
 port-at-requires : tie.Need-port-at-requires
 port-at-requires c κs = search needs
@@ -157,11 +148,8 @@ pub take-spec : {M : Type 1} → statement M
 take-spec =
     tie.close
     (tie.spec
-    consumed-requires
+    next-slot-requires
     abi-requires
-    mul-at
-    slot-at-requires
-    add-at
     copy-slot-requires
     port-at-requires
     mul-from

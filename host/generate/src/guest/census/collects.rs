@@ -3,7 +3,7 @@
 use super::{refusal_classes, GuestCensus, WRONG_LENGTH};
 use crate::guest::generator::OPERATIONS;
 use kernelharp::layout::{
-    read_u32, read_u64, Abi, RESPONSE_BYTES, RING_BYTES, RSP_EVENT, RSP_PROD, SLOTS,
+    read_u32, read_u64, Abi, Pages, PAGE_BYTES, PAGE_SLOTS, RESPONSE_BYTES, RSP_EVENT, RSP_PROD,
 };
 use kernelharp::words::{collect, CollectWords};
 use second::Refusal;
@@ -82,17 +82,17 @@ impl GuestCensus {
 
     /// The bytes of the next response.
     fn response<'a>(&self, lent: &'a [u8]) -> &'a [u8] {
-        &lent[Abi::Bits64.slot_at(self.collected)..][..RESPONSE_BYTES]
+        &lent[Abi::Bits64.slot_at(Pages::One, self.collected)..][..RESPONSE_BYTES]
     }
 
     /// The refusals that a collect deserves, lowest first. Of a page that is too short nothing more is
     /// said than that.
     pub(super) fn collect_refusals(&self, lent: &[u8]) -> Vec<u32> {
         let mut deserved = Vec::new();
-        if lent.len() != RING_BYTES {
+        if lent.len() != PAGE_BYTES {
             deserved.push(WRONG_LENGTH);
         }
-        if lent.len() < RING_BYTES || self.ahead(lent) == 0 {
+        if lent.len() < PAGE_BYTES || self.ahead(lent) == 0 {
             return deserved;
         }
         if self.ahead(lent) as usize > self.outstanding.len() {
@@ -126,7 +126,7 @@ impl GuestCensus {
         tally.tick_if(far, "collect refused 34, far ahead");
         let none = outstanding == 0;
         tally.tick_if(none, "collect refused 34, none outstanding");
-        let full = outstanding == SLOTS;
+        let full = outstanding == PAGE_SLOTS;
         tally.tick_if(full, "collect refused 34, 32 outstanding");
     }
 
@@ -153,7 +153,7 @@ impl GuestCensus {
         self.tally.tick("nothing");
         self.tally.tick(match self.outstanding.len() {
             0 => "nothing, none outstanding",
-            SLOTS => "nothing, 32 outstanding",
+            PAGE_SLOTS => "nothing, 32 outstanding",
             _ => "nothing, some outstanding",
         });
         let same = read_u32(lent, RSP_EVENT) == read_u32(left, RSP_EVENT);
@@ -177,7 +177,7 @@ impl GuestCensus {
         let padding = response[9] != 0 && response[12..].iter().all(|&byte| byte != 0);
         self.tally.tick_if(padding, "collected, padding set");
         let index = self.collected;
-        let end = index as usize % SLOTS == SLOTS - 1;
+        let end = index as usize % PAGE_SLOTS == PAGE_SLOTS - 1;
         self.tally.tick_if(end, "collected, at the ring's end");
         self.tally.tick_if(index > 31, "collected, beyond index 31");
         self.tally
@@ -194,7 +194,7 @@ impl GuestCensus {
         tally.tick_if(ahead == outstanding, "collected, at the line");
         let more = ahead < outstanding;
         tally.tick_if(more, "collected, more outstanding than answered");
-        tally.tick_if(outstanding == SLOTS, "collected, 32 outstanding");
+        tally.tick_if(outstanding == PAGE_SLOTS, "collected, 32 outstanding");
     }
 
     fn end(&mut self, place: usize) {

@@ -4,7 +4,7 @@ use super::{refusal_classes, GuestCensus, WRONG_LENGTH};
 use crate::census::yes_or_no;
 use crate::guest::causes::{causes, causes_of, used_segments, OPERATION_CAUSES};
 use crate::guest::generator::OPERATIONS;
-use kernelharp::layout::{read_u32, Abi, REQ_EVENT, REQ_PROD, RING_BYTES, SLOTS};
+use kernelharp::layout::{read_u32, Abi, Pages, PAGE_BYTES, PAGE_SLOTS, REQ_EVENT, REQ_PROD};
 use kernelharp::words::{request, segment, RequestWords};
 use second::Refusal;
 
@@ -78,7 +78,7 @@ impl GuestCensus {
     /// The refusals that a put deserves, lowest first.
     pub(super) fn put_refusals(&self, words: &RequestWords, lent: &[u8]) -> Vec<u32> {
         let deserved = [
-            (WRONG_LENGTH, lent.len() != RING_BYTES),
+            (WRONG_LENGTH, lent.len() != PAGE_BYTES),
             (RING_FULL, self.is_full()),
             (ID_OUTSTANDING, self.is_outstanding(words[request::ID])),
             (BAD_REQUEST, !causes(words).is_empty()),
@@ -134,14 +134,14 @@ impl GuestCensus {
         self.note_id(id);
         self.note_words(words);
         self.note_notify(notify, lent);
-        let slot = &lent[Abi::Bits64.slot_at(index)..][..Abi::Bits64.slot_bytes()];
+        let slot = &lent[Abi::Bits64.slot_at(Pages::One, index)..][..Abi::Bits64.slot_bytes()];
         let other = slot.iter().all(|&byte| byte != 0);
         self.tally
             .tick_if(other, "put, over other bytes of the slot");
         let another = read_u32(lent, REQ_PROD) != index;
         self.tally
             .tick_if(another, "put, another req_prod in the page");
-        let end = index as usize % SLOTS == SLOTS - 1;
+        let end = index as usize % PAGE_SLOTS == PAGE_SLOTS - 1;
         self.tally.tick_if(end, "put, at the ring's end");
         self.tally.tick_if(index > 31, "put, beyond index 31");
         self.tally.tick_if(index > 1000, "put, beyond index 1000");

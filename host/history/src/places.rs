@@ -1,12 +1,15 @@
-//! Where the checker looks: places in pages, slots and answers, and numbers in bytes.
+//! Where the checker looks: places in rings, slots and answers, and numbers in bytes.
 
 pub const PORTS: usize = 8;
-pub const RING_BYTES: usize = 4096;
-pub const RINGS_BYTES: usize = PORTS * RING_BYTES;
+pub const PAGE_BYTES: usize = 4096;
+/// A port's share of the rings: room for two pages.
+pub const SHARE_BYTES: usize = 2 * PAGE_BYTES;
+pub const RINGS_BYTES: usize = PORTS * SHARE_BYTES;
 pub const GRANTS_BYTES: usize = PORTS * 1024;
 pub const REQ_PROD: usize = 0;
 pub const REQ_EVENT: usize = 4;
-pub const SLOTS: usize = 32;
+/// Slots of a ring for each of its pages.
+pub const PAGE_SLOTS: u32 = 32;
 /// Words of the answers.
 pub const TURN_WORDS: usize = 64;
 pub const DONE_WORDS: usize = 4;
@@ -38,13 +41,13 @@ pub type Pair = (u64, u8);
 pub const DONE_PORT: usize = 0;
 pub const DONE_STATUS: usize = 1;
 
-/// A port's page of the rings.
-pub fn page(rings: &[u8], port: usize) -> &[u8] {
-    let mut pages = rings.chunks_exact(RING_BYTES);
-    pages.nth(port).expect("a page a port")
+/// A port's share of the rings.
+pub fn share(rings: &[u8], port: usize) -> &[u8] {
+    let mut shares = rings.chunks_exact(SHARE_BYTES);
+    shares.nth(port).expect("a share a port")
 }
 
-/// How the records of a port lie in its page: by the node protocol of its last opening.
+/// How the records of a port are laid out: by the node protocol of its last opening.
 #[derive(Clone, Copy, Debug, Default, PartialEq, Eq)]
 pub enum Layout {
     #[default]
@@ -52,9 +55,31 @@ pub enum Layout {
     Bits32,
 }
 
-impl Layout {
+/// Where the records of a port lie: by its layout, and by the slots that its ring has, as the node
+/// ring-page-order of its last opening says.
+#[derive(Clone, Copy, Debug, PartialEq, Eq)]
+pub struct Ring {
+    pub layout: Layout,
+    pub slots: u32,
+}
+
+impl Default for Ring {
+    fn default() -> Ring {
+        Ring {
+            layout: Layout::default(),
+            slots: PAGE_SLOTS,
+        }
+    }
+}
+
+impl Ring {
+    /// The bytes of its pages. Those behind them in the port's share are for nobody.
+    pub fn bytes(self) -> usize {
+        (self.slots / PAGE_SLOTS) as usize * PAGE_BYTES
+    }
+
     fn slot_bytes(self) -> usize {
-        match self {
+        match self.layout {
             Layout::Bits64 => 112,
             Layout::Bits32 => 108,
         }
@@ -62,34 +87,34 @@ impl Layout {
 
     /// Where the slot of an index begins.
     fn slot_at(self, index: u32) -> usize {
-        64 + self.slot_bytes() * (index as usize % SLOTS)
+        64 + self.slot_bytes() * (index % self.slots) as usize
     }
 
     /// The bytes of an index's slot.
-    pub fn slot(self, page: &[u8], index: u32) -> &[u8] {
-        &page[self.slot_at(index)..][..self.slot_bytes()]
+    pub fn slot(self, share: &[u8], index: u32) -> &[u8] {
+        &share[self.slot_at(index)..][..self.slot_bytes()]
     }
 
     /// The pair of a request, whose id is at a place of the layout's own.
-    pub fn request_pair(self, page: &[u8], index: u32) -> Pair {
+    pub fn request_pair(self, share: &[u8], index: u32) -> Pair {
         let at = self.slot_at(index);
-        let id = match self {
+        let id = match self.layout {
             Layout::Bits64 => at + 8,
             Layout::Bits32 => at + 4,
         };
-        (u64_at(page, id), page[at])
+        (u64_at(share, id), share[at])
     }
 
     /// The pair of a response, in the same bytes of the slot for both layouts.
-    pub fn response_pair(self, page: &[u8], index: u32) -> Pair {
+    pub fn response_pair(self, share: &[u8], index: u32) -> Pair {
         let at = self.slot_at(index);
-        (u64_at(page, at), page[at + 8])
+        (u64_at(share, at), share[at + 8])
     }
 
     /// The 16 bits of a response's status (rule 2.10).
-    pub fn response_status(self, page: &[u8], index: u32) -> u16 {
+    pub fn response_status(self, share: &[u8], index: u32) -> u16 {
         let at = self.slot_at(index) + 10;
-        number(&page[at..at + 2]) as u16
+        number(&share[at..at + 2]) as u16
     }
 }
 
