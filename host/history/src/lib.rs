@@ -317,7 +317,7 @@ impl History {
             .map_err(|fault| format!("port {number}: {fault}"))
     }
 
-    /// What is behind the ring in the share of a port that is open or broken stays (rule 1.3).
+    /// What is behind the ring in the share of a port that is open or broken stays (rule 1.20).
     fn check_behind_rings(&self, lent: &[u8], left: &[u8]) -> Result<(), String> {
         for (number, port) in self.ports.iter().enumerate() {
             if port.state != State::Closed {
