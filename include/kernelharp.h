@@ -9,8 +9,8 @@
  * the first that applies. A refused call changes no byte behind any pointer, `answer` included. No content of a buffer,
  * no length and no number is an error of the caller: each has its refusal or its answer. The caller's part is that each
  * pointer has as many bytes behind it as its length, its type or its array says, that what consists of words (memory,
- * requests, answers, meters) is aligned for uint64_t, and that the buffers of one call don't overlap. Rings, pages,
- * grants and sheets may lie anywhere. A pointer with length 0 may be null.
+ * entries, requests, answers, meters) is aligned for uint64_t, and that the buffers of one call don't overlap. Rings,
+ * pages, grants and sheets may lie anywhere. A pointer with length 0 may be null.
  *
  * A call sees the rings as they are at that call. Guests may write them between calls; while a call runs they must not,
  * so a host whose guests can do so lends a copy. The same holds of a guest's page and its backend.
@@ -18,8 +18,8 @@
  * Names. What a call or a word of an answer says is KH_ and its own name (KH_NOT_BUSY, KH_READ_ONLY, KH_STARTED); the
  * Rattle sources have the same names without KH_, the Rust ones as NotBusy, ReadOnly. What is handed in has its kind
  * first (KH_NODE_MODE, KH_GRANT_READ, KH_DISCARD_SECURE), and so have the places of words (KH_TURN_PORT, KH_DONE_PORT,
- * KH_EXTENT_FRAME, KH_REQUEST_ID). Calls on a guest are kh_guest_ and what they do. Sizes end in their unit
- * (KH_RING_BYTES), counts are plurals (KH_PORTS), and a page's indices are called as in ring.h.
+ * KH_ENTRY_TAG, KH_EXTENT_FRAME, KH_REQUEST_ID). Calls on a guest are kh_guest_ and what they do. Sizes end in their
+ * unit (KH_RING_BYTES), counts are plurals (KH_PORTS), and a page's indices are called as in ring.h.
  */
 #ifndef KERNELHARP_H
 #define KERNELHARP_H
@@ -38,7 +38,7 @@ extern "C" {
  * and the last, and makes no other call when one of them is not the header's: the header and the archive are then not
  * of one release, or not built for the same memory.
  */
-#define KH_VERSION 800 /* 0.8.0 */
+#define KH_VERSION 900 /* 0.9.0 */
 uint32_t kh_version(void);
 uint32_t kh_memory_words(void);
 uint32_t kh_guest_words(void);
@@ -50,6 +50,7 @@ uint32_t kh_guest_words(void);
 #define KH_GRANTS_BYTES 8192  /* all grants: port k's at KH_PORT_GRANTS * k */
 #define KH_TURN_WORDS   64    /* answer of kh_turn */
 #define KH_DONE_WORDS   4     /* answer of kh_complete */
+#define KH_MANY_WORDS   68    /* answer of kh_complete_many */
 
 /* Sizes of what a guest lends, see kh_guest. */
 #define KH_GUEST_PAGE_BYTES 4096 /* its ring page */
@@ -107,6 +108,7 @@ enum kh_abi {
 
 #define KH_TAGS          64  /* requests that a port can have in flight, at most: kh_slots(pages), tags from 0 on */
 #define KH_EXTENTS       11  /* extents that a plan can have */
+#define KH_ENTRIES       64  /* entries that a list of completions can have, at most, whatever the ring */
 #define KH_SECTOR_BYTES  512 /* a sector, in every number here, whatever the node sector-size says */
 #define KH_FRAME_SECTORS 8   /* sectors of a frame */
 
@@ -127,12 +129,15 @@ enum kh_node {
 /* What a call returns. */
 enum kh_refusal {
     KH_OK = 0,              /* done: no refusal */
-    KH_WRONG_LENGTH = 1,    /* rings, grants or page of the wrong length (turn, complete, guest_put, guest_collect) */
-    KH_NO_PORT = 2,         /* a port above 7 (open, close, complete) */
+    KH_WRONG_LENGTH = 1,    /* rings, grants or page of the wrong length (turn, complete, complete_many, guest_put,
+                               guest_collect), or words of a list that are no whole entries (complete_many) */
+    KH_NO_PORT = 2,         /* a port above 7 (open, close, complete, complete_many) */
     KH_NOT_CLOSED = 3,      /* the port is open or broken (open) */
-    KH_IS_CLOSED = 4,       /* the port is closed (close, complete) */
+    KH_IS_CLOSED = 4,       /* the port is closed (close, complete, complete_many) */
     KH_IN_FLIGHT = 5,       /* requests in flight (close) */
-    KH_NOT_BUSY = 6,        /* tag beyond the ring's slots, not busy, or busy with another serial (complete) */
+    KH_NOT_BUSY = 6,        /* tag beyond the ring's slots, not busy, or busy with another serial (complete, and of any
+                               entry complete_many); a tag that the list names twice (complete_many) */
+    KH_TOO_MANY = 7,        /* more entries than KH_ENTRIES (complete_many); comes before 6 */
     KH_SHEET_SHAPE = 11,    /* sheet empty, more than 9 entries, a reserved byte not 0, wrong total length (open) */
     KH_SHEET_NODES = 12,    /* a node 0 or above 9, or no greater than the one before (open) */
     KH_SHEET_TEXT = 13,     /* nodes 1 to 5 and 8: any other text; 6, 7 and 9: no number (open) */
@@ -173,11 +178,11 @@ enum kh_reason {
     KH_UNALIGNED = 29          /* start, count, or where a segment begins or ends, no multiple of sector-size / 512 */
 };
 
-/* A response's status, as on the ring. Answers of kh_turn and kh_complete hold its magnitude, those of kh_guest_collect
-   its 16 bits: kh_read_collected gives it as a number. */
+/* A response's status, as on the ring. Answers of kh_turn, kh_complete and kh_complete_many hold its magnitude, those
+   of kh_guest_collect its 16 bits: kh_read_collected gives it as a number. */
 enum kh_status { KH_OKAY = 0, KH_ERROR = -1, KH_NOT_SUPPORTED = -2 };
 
-/* The result of kh_complete that gives the status not supported (-EOPNOTSUPP). */
+/* The result of a completion that gives the status not supported (-EOPNOTSUPP). */
 #define KH_RESULT_NOT_SUPPORTED (-95)
 
 /* Words of kh_turn's answer. A word that the kind does not use is 0, also those that have no name. */
@@ -208,6 +213,22 @@ enum kh_done_word {
     KH_DONE_NOTIFY = 2  /* 0 or 1 */
 };
 
+/* Words of an entry of a list for kh_complete_many; entry i is at KH_ENTRY_WORDS * i. */
+enum kh_entry_word {
+    KH_ENTRY_TAG = 0,    /* above 2^32 - 1 it names nothing, and so does a serial */
+    KH_ENTRY_SERIAL = 1, /* of the plan, as the tag */
+    KH_ENTRY_RESULT = 2  /* what the I/O gave, (uint64_t)(int64_t)result */
+};
+#define KH_ENTRY_WORDS 3
+
+/* Words of kh_complete_many's answer; word 3 is 0, and so are the statuses behind the last entry's. */
+enum kh_many_word {
+    KH_MANY_PORT = 0,
+    KH_MANY_COUNT = 1,   /* entries, 0 to KH_ENTRIES */
+    KH_MANY_NOTIFY = 2,  /* 0 or 1 */
+    KH_MANY_STATUSES = 4 /* of entry i at KH_MANY_STATUSES + i, i < KH_ENTRIES; magnitude: 0, 1 or 2 */
+};
+
 /*
  * Backend memory. All zeros are the empty backend, eight closed ports: there is no call to set it up, and
  * `static kh_memory memory;` is one. What the words hold is the library's business.
@@ -236,7 +257,8 @@ uint32_t kh_close(kh_memory *memory, uint32_t port);
  * first). `answer` has KH_TURN_WORDS words, and all of them are written (kh_read_turn gives them as a struct).
  *
  * - idle: each open port's req_event is set so that its next request notifies, and that is the only change.
- * - started: the rings stay. The host does the plan's I/O and then calls kh_complete with port, tag and serial.
+ * - started: the rings stay. The host does the plan's I/O and then calls kh_complete with port, tag and serial, or has
+ *   these in a list for kh_complete_many.
  * - answered: the response is in its slot and rsp_prod is raised; no other ring byte changes. Notify: send the event.
  * - overrun: the rings stay. Completions of the port still work, and it can be closed.
  *
@@ -261,36 +283,57 @@ uint32_t kh_complete(kh_memory *memory, uint8_t *rings, size_t rings_bytes, uint
                      uint32_t serial, int32_t result, uint64_t *answer);
 
 /*
+ * Answers some started requests of one port, KH_ENTRIES at most, and frees their tags: the responses are in their slots
+ * in the order of the list, and rsp_prod is raised once, after the last of them; no other ring byte changes. Rings and
+ * memory are left as by kh_complete of one entry after the other, and a list of one is kh_complete.
+ *
+ * `entries` has entry_words words, KH_ENTRY_WORDS to an entry (kh_write_entry writes them); a result gives the status
+ * that it has in kh_complete, and one that doesn't fit int32_t has error. `answer` has KH_MANY_WORDS words, and all of
+ * them are written (kh_read_many gives them as a struct): the statuses are in the order of the list. Notify, one event
+ * for all of them: exactly when rsp_event is the new rsp_prod or an index that it passed, so in 32 bits when
+ * new - rsp_event < new - old. Here old is the number of responses before the call, whatever the ring says.
+ *
+ * An empty list is done where the port is open or broken: it neither reads nor writes a ring, and says no notify.
+ *
+ * Refusals: 1 (the rings, or entry_words no multiple of KH_ENTRY_WORDS), 2, 4, 7, 6. A single entry at fault, or a tag
+ * that is named twice, is 6 for the whole list, and none of it is done.
+ */
+uint32_t kh_complete_many(kh_memory *memory, uint8_t *rings, size_t rings_bytes, uint32_t port, const uint64_t *entries,
+                          size_t entry_words, uint64_t *answer);
+
+/*
  * A port's meter: how many of its requests were taken, and how many were answered with each status. Meters are the
  * host's, one to a port; the backend knows none of them. All zeros are a new meter: the host zeroes one by a store of
  * its own, whenever it likes. Opening and closing the port leave it alone. Each number stops at 2^64 - 1 by itself.
  */
 typedef struct {
     uint64_t taken;         /* requests that turns started or answered */
-    uint64_t okay;          /* responses with KH_OKAY, all of completions */
+    uint64_t okay;          /* responses with KH_OKAY, all of completions, alone or in a list */
     uint64_t error;         /* with KH_ERROR, of turns and completions */
     uint64_t not_supported; /* with KH_NOT_SUPPORTED, of both too */
 } kh_meter;
 
 /*
- * Raise a meter by what a turn or a completion did. `returned` is what kh_turn or kh_complete returned, `answer` its
- * KH_TURN_WORDS or KH_DONE_WORDS words as they are then, and `meter` that of the port which the answer names. The meter
- * is the only thing that changes, and there are no refusals.
+ * Raise a meter by what a turn, a completion or a list of them did. `returned` is what kh_turn, kh_complete or
+ * kh_complete_many returned, `answer` its KH_TURN_WORDS, KH_DONE_WORDS or KH_MANY_WORDS words as they are then, and
+ * `meter` that of the port which the answer names. The meter is the only thing that changes, and there are no refusals.
  *
  * - started: taken.
  * - answered: taken, and the number of its status.
  * - a completion that was done: the number of its status.
+ * - a list that was done: for each of its entries, the number of its status.
  * - idle, overrun, and whatever was refused: none. An idle turn and a refusal name no port, so any meter will do; of a
  *   refused call no word is looked at.
  *
  * A host that hands over every answer, once and to the right meter, before it makes another call or zeroes the meter,
  * and that hands over nothing else, finds in each number the count since it zeroed the meter.
  *
- * Any words may be handed over: a kind that is none of the above raises nothing, and a status word other than 0, 1 and
- * 2 none of the last three numbers.
+ * Any words may be handed over: a kind that is none of the above raises nothing, a status word other than 0, 1 and 2
+ * none of the last three numbers, and a count above KH_ENTRIES means KH_ENTRIES.
  */
 void kh_meter_turn(kh_meter *meter, uint32_t returned, const uint64_t *answer);
 void kh_meter_completion(kh_meter *meter, uint32_t returned, const uint64_t *answer);
+void kh_meter_many(kh_meter *meter, uint32_t returned, const uint64_t *answer);
 
 /*
  * The guest's half of a ring: it puts requests into a page of the 64-bit layout, and collects their responses. It knows
@@ -456,6 +499,14 @@ typedef struct {
     bool notify;    /* the guest is to be notified */
 } kh_completed;
 
+/* kh_complete_many's answer. */
+typedef struct {
+    uint32_t port;
+    uint32_t count;               /* entries */
+    bool notify;                  /* the guest is to be notified, once for all of them */
+    int32_t statuses[KH_ENTRIES]; /* enum kh_status, in the order of the list; 0 behind the last */
+} kh_completed_many;
+
 /* When a reason is given, in a few words, for logs and tables; 23 reads "withdrawn". */
 static inline const char *kh_reason_text(uint32_t reason) {
     static const char *const texts[] = {
@@ -518,6 +569,26 @@ static inline kh_completed kh_read_completion(const uint64_t *answer) {
     completed.port = (uint32_t)answer[KH_DONE_PORT];
     completed.status = -(int32_t)answer[KH_DONE_STATUS];
     completed.notify = answer[KH_DONE_NOTIFY] != 0;
+    return completed;
+}
+
+/* Writes entry i of a list for kh_complete_many, whose words these are. */
+static inline void kh_write_entry(uint64_t *words, size_t i, uint32_t tag, uint32_t serial, int32_t result) {
+    uint64_t *entry = words + KH_ENTRY_WORDS * i;
+    entry[KH_ENTRY_TAG] = tag;
+    entry[KH_ENTRY_SERIAL] = serial;
+    entry[KH_ENTRY_RESULT] = (uint64_t)(int64_t)result;
+}
+
+/* The answer of a list of completions that was done, KH_MANY_WORDS words. */
+static inline kh_completed_many kh_read_many(const uint64_t *answer) {
+    kh_completed_many completed;
+    size_t i;
+    completed.port = (uint32_t)answer[KH_MANY_PORT];
+    completed.count = (uint32_t)answer[KH_MANY_COUNT];
+    completed.notify = answer[KH_MANY_NOTIFY] != 0;
+    for (i = 0; i < KH_ENTRIES; i++)
+        completed.statuses[i] = -(int32_t)answer[KH_MANY_STATUSES + i];
     return completed;
 }
 
@@ -600,6 +671,9 @@ KH_HOLDS(no_slot_is_larger, KH_SLOT32_BYTES <= KH_SLOT_BYTES);
 KH_HOLDS(no_response_is_larger, KH_RESPONSE32_BYTES <= KH_RESPONSE_BYTES);
 KH_HOLDS(both_keep_as_much_of_a_slot, KH_SLOT32_BYTES - KH_RESPONSE32_BYTES == KH_SLOT_BYTES - KH_RESPONSE_BYTES);
 KH_HOLDS(extents_fit_the_answer, KH_TURN_EXTENTS + KH_EXTENTS * KH_EXTENT_WORDS <= KH_TURN_WORDS);
+KH_HOLDS(statuses_end_the_answer, KH_MANY_STATUSES + KH_ENTRIES == KH_MANY_WORDS);
+KH_HOLDS(a_list_can_name_every_tag, KH_ENTRIES == KH_TAGS);
+KH_HOLDS(the_result_ends_an_entry, KH_ENTRY_RESULT + 1 == KH_ENTRY_WORDS);
 KH_HOLDS(a_guest_is_its_words, sizeof(kh_guest) == 8 * KH_GUEST_WORDS);
 KH_HOLDS(segments_end_the_request, KH_REQUEST_SEGMENTS + KH_SEGMENTS * KH_SEGMENT_WORDS == KH_REQUEST_WORDS);
 KH_HOLDS(every_segment_has_an_extent, KH_SEGMENTS == KH_EXTENTS);

@@ -5,7 +5,7 @@ use kernelharp::layout::{
     ring, write_u32, GRANTS_BYTES, PORTS, PORT_GRANTS, REQ_PROD, RINGS_BYTES, RING_BYTES,
 };
 use kernelharp::Completion;
-use second::{Done, Plan, Reason, Refusal, Turned};
+use second::{Done, DoneMany, Plan, Reason, Refusal, Turned};
 
 /// A backend with its buffers; the guests' own req_prod per port.
 #[derive(Clone)]
@@ -139,6 +139,11 @@ impl Bench {
         self.backend.complete(&mut self.rings, named)
     }
 
+    /// Completes a list of requests, by the words of its entries.
+    pub fn complete_many(&mut self, port: u32, entries: &[u64]) -> Result<DoneMany, Refusal> {
+        self.backend.complete_many(&mut self.rings, port, entries)
+    }
+
     /// Makes a call that must be refused and leave backend and buffers as they were. Gives the
     /// refusal's number.
     pub fn refused<T: std::fmt::Debug>(
@@ -166,5 +171,10 @@ impl Bench {
     /// [`Bench::refused`] of a completion.
     pub fn refused_complete(&mut self, port: u32, tag: u32, serial: u32) -> u32 {
         self.refused(|bench| bench.complete(port, tag, serial, 8))
+    }
+
+    /// [`Bench::refused`] of a list of completions.
+    pub fn refused_list(&mut self, port: u32, entries: &[u64]) -> u32 {
+        self.refused(|bench| bench.complete_many(port, entries))
     }
 }

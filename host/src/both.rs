@@ -2,11 +2,11 @@
 //! alike, so a test written for the one holds for the other.
 
 use crate::Records;
-use generate::{done_words, for_second, turn_words, Core, Ring, UNTOUCHED};
+use generate::{done_words, for_second, many_words, turn_words, Core, Ring, UNTOUCHED};
 use kernelharp::layout::PORTS;
-use kernelharp::words::{DONE_WORDS, TURN_WORDS};
+use kernelharp::words::{DONE_WORDS, MANY_WORDS, TURN_WORDS};
 use kernelharp::{Completion, Memory, Turn};
-use second::{Done, Plan, Refusal, Turned};
+use second::{Done, DoneMany, Plan, Refusal, Turned};
 
 /// The calls of [`second::Backend`], made of both programs. Each answer is handed over to a record.
 #[derive(Clone, Debug, PartialEq, Eq)]
@@ -102,6 +102,32 @@ impl Both {
             let typed = kernelharp::Done::from_words(&words).expect("a completion's words");
             let parts = (typed.port.number(), typed.status as i32, typed.notify);
             assert_eq!(parts, (done.port, done.status as i32, done.notify));
+        }
+        answer
+    }
+
+    /// Completes a list of requests, by the words of its entries.
+    pub fn complete_many(
+        &mut self,
+        rings: &mut [u8],
+        port: u32,
+        entries: &[u64],
+    ) -> Result<DoneMany, Refusal> {
+        let (mut copy, mut words) = (rings.to_vec(), [UNTOUCHED; MANY_WORDS]);
+        let answer = self.second.complete_many(rings, port, entries);
+        let archive = &mut self.archive;
+        let code = archive.complete_many(&mut copy, port, entries, &mut words);
+        assert_eq!((code, words), due(&answer, many_words));
+        assert!(copy == rings, "the list left other ring bytes");
+        self.records.many(&answer, code, &words);
+        if let Ok(done) = &answer {
+            let typed = kernelharp::DoneMany::from_words(&words).expect("a list's words");
+            assert_eq!(
+                (typed.port.number(), typed.notify),
+                (done.port, done.notify)
+            );
+            let statuses = typed.statuses().iter().map(|&status| status as i32);
+            assert!(statuses.eq(done.statuses.iter().map(|&status| status as i32)));
         }
         answer
     }

@@ -1,11 +1,14 @@
 //! What the tests build: node sheets ([`sheet`]), requests ([`Ask`]), a [`Bench`] with the second
 //! program and the archive side by side ([`Both`]), their hosts' [`Records`], their [`Guests`], a
-//! program's [`Twin`] on other bytes, histories made by hand ([`Story`]), and the two sides of a ring in
+//! program's [`Twin`] on other bytes, the archive with its completions [`Exchanged`] for lists and lists for
+//! completions, flawed programs to be found ([`find_beside`], [`find_alone`]), histories made by hand ([`Story`]), and the two sides of a ring in
 //! steps ([`wakeup`]).
 
 mod ask;
 mod bench;
 mod both;
+mod exchange;
+mod flaws;
 mod guests;
 mod hex;
 mod records;
@@ -17,6 +20,8 @@ pub mod wakeup;
 pub use ask::Ask;
 pub use bench::Bench;
 pub use both::Both;
+pub use exchange::Exchanged;
+pub use flaws::{find_alone, find_beside};
 pub use guests::Guests;
 pub use hex::bytes;
 pub use records::Records;

@@ -3,9 +3,9 @@
 use generate::{meter_of, numbers};
 use history::Record;
 use kernelharp::layout::PORTS;
-use kernelharp::words::{DoneWords, TurnWords};
+use kernelharp::words::{DoneWords, ManyWords, TurnWords};
 use kernelharp::Meter;
-use second::{Done, Refusal, Turned};
+use second::{Done, DoneMany, Refusal, Turned};
 use std::ops::Range;
 
 /// The eight ports' records, the second program's raised by its answers, the archive's by the words.
@@ -63,6 +63,21 @@ impl Records {
         for port in handed_to(port) {
             self.second[port].completion(answer);
             self.archive[port].completion(code, words);
+        }
+        self.check();
+    }
+
+    /// Hands the answer of a list of completions over.
+    pub(crate) fn many(
+        &mut self,
+        answer: &Result<DoneMany, Refusal>,
+        code: u32,
+        words: &ManyWords,
+    ) {
+        let port = answer.as_ref().ok().map(|done| done.port);
+        for port in handed_to(port) {
+            self.second[port].many(answer);
+            self.archive[port].many(code, words);
         }
         self.check();
     }

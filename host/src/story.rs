@@ -4,7 +4,7 @@ use crate::{usual_sheet, usual_sheet_of};
 use generate::Ring;
 use history::{Event, History, Record};
 use kernelharp::layout::{write_u32, GRANTS_BYTES, PORTS, REQ_PROD, RINGS_BYTES, RING_BYTES};
-use kernelharp::words::{done, kind, turn, DONE_WORDS, TURN_WORDS};
+use kernelharp::words::{done, kind, many, turn, DONE_WORDS, MANY_WORDS, TURN_WORDS};
 
 /// A history with the first `ports` ports open, and the rings lent to it. All requests are
 /// zeros: the pair (0, 0), which zeros in a response answer.
@@ -162,6 +162,46 @@ impl Story {
             result: 0,
             code,
             answer: &answer,
+        });
+        self.rings.clone_from(&self.left);
+        checked
+    }
+
+    /// A list of completions by tag and serial that gave this code, and tells these statuses, without
+    /// their signs.
+    pub fn complete_many(
+        &mut self,
+        port: u32,
+        names: &[(u64, u64)],
+        statuses: &[u64],
+        code: u32,
+    ) -> Checked {
+        let entries: Vec<u64> = names
+            .iter()
+            .flat_map(|&(tag, serial)| [tag, serial, 0])
+            .collect();
+        let mut answer = [0; MANY_WORDS];
+        answer[many::PORT] = u64::from(port);
+        answer[many::COUNT] = statuses.len() as u64;
+        answer[many::STATUSES..][..statuses.len()].copy_from_slice(statuses);
+        self.list(port, &entries, code, &answer)
+    }
+
+    /// A list of completions, by its words and those of its answer.
+    pub fn list(
+        &mut self,
+        port: u32,
+        entries: &[u64],
+        code: u32,
+        answer: &[u64; MANY_WORDS],
+    ) -> Checked {
+        let checked = self.history.check(&Event::CompleteMany {
+            lent: &self.rings,
+            left: &self.left,
+            port,
+            entries,
+            code,
+            answer,
         });
         self.rings.clone_from(&self.left);
         checked

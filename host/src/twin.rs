@@ -1,8 +1,8 @@
 //! A program that sees other bytes wherever no call may look.
 
-use generate::{Core, Ring};
+use generate::{Core, List, Ring};
 use kernelharp::layout::{ring_mut, PORTS, RINGS_BYTES};
-use kernelharp::words::{DoneWords, TurnWords};
+use kernelharp::words::{DoneWords, ManyWords, TurnWords};
 use kernelharp::{Completion, Meter};
 
 /// A program that is lent rings whose bytes are all others behind a ring of one page, and in the share of a
@@ -72,12 +72,20 @@ impl<C: Core> Core for Twin<C> {
         self.lend(rings, |core, rings| core.complete(rings, named, answer))
     }
 
+    fn complete_many(&mut self, rings: &mut [u8], list: List, answer: &mut ManyWords) -> u32 {
+        self.lend(rings, |core, rings| core.complete_many(rings, list, answer))
+    }
+
     fn meter_turn(&self, meter: &mut Meter, returned: u32, answer: &TurnWords) {
         self.core.meter_turn(meter, returned, answer);
     }
 
     fn meter_completion(&self, meter: &mut Meter, returned: u32, answer: &DoneWords) {
         self.core.meter_completion(meter, returned, answer);
+    }
+
+    fn meter_many(&self, meter: &mut Meter, returned: u32, answer: &ManyWords) {
+        self.core.meter_many(meter, returned, answer);
     }
 
     fn skip(&mut self, port: usize, requests: u32) {

@@ -3,7 +3,7 @@
 
 use frontend::EventChannel;
 use kernelharp::live::LiveBackend;
-use kernelharp::Turn;
+use kernelharp::{Entry, Port, Turn};
 use std::sync::atomic::{AtomicBool, Ordering};
 use std::sync::{Condvar, Mutex};
 use std::thread;
@@ -118,6 +118,27 @@ impl Bells {
             };
             if notify {
                 self.to_guest.notify();
+            }
+        }
+    }
+
+    /// The same for a port whose requests all start: what it has started by the time a turn is idle is
+    /// completed by one list.
+    pub fn serve_by_lists(&self, mut backend: LiveBackend, port: Port) {
+        let mut ended = Vec::new();
+        loop {
+            match backend.turn() {
+                Turn::Started(plan) => ended.push(Entry::of(plan.name, plan.expected_result())),
+                Turn::Idle if !ended.is_empty() => {
+                    let done = backend.complete_many(port, &ended);
+                    ended.clear();
+                    if done.unwrap().notify {
+                        self.to_guest.notify();
+                    }
+                }
+                Turn::Idle if self.finished.load(Ordering::SeqCst) => return,
+                Turn::Idle => assert!(self.to_host.wait(BOUND), "the host slept over a request"),
+                other => panic!("{other}"),
             }
         }
     }

@@ -1,7 +1,7 @@
 //! The archive against the second program, over random lists of calls.
 //!
 //! After each call both must have returned the same number and left the same answer words, ring
-//! bytes, grants and sheet; a refused call must have left its answer and every word of the archive's
+//! bytes, grants, sheet and entries; a refused call must have left its answer and every word of the archive's
 //! memory; and the checker of demand 3 follows the archive's history over every list. Each answer is
 //! handed over to a record of counters, which both must raise alike and as the history says; any words
 //! are, too, to records of any numbers. The counts of what occurred are printed, and a class that did
@@ -10,6 +10,9 @@
 //! Half of the ports that are opened begin at indices close to 2^32 or to a multiple of 64: they are set to
 //! them in both programs, as they would be after so many requests that were taken and answered, and the
 //! checker counts on from there.
+//!
+//! A completion is compared with the list of one besides, and a list with its completions one by one, on
+//! copies of the archive's memory and rings.
 //!
 //! The guest's half is compared likewise: by itself, on pages that a made-up backend writes, and
 //! together with the backend on one page, where what is claimed of both halves is checked as well.
@@ -26,7 +29,7 @@ use generate::{GuestCensus, Halves, HalvesReport};
 use kernelharp::{GuestMemory, Memory};
 use second::{Backend, Guest};
 use std::time::Instant;
-use tests::Twin;
+use tests::{Exchanged, Twin};
 
 const SEED: u64 = 20_010_000;
 const CALLS: u64 = 2_000_000;
@@ -81,23 +84,34 @@ fn archive_and_second_program_agree() {
     assert!(calls < CALLS || longest_wait == 7);
 }
 
-/// Calls of each list that the archive's twin takes part in. They are short, for the two memories are
-/// compared at their end.
-const TWIN_CALLS: u64 = 2_000;
-
-/// What is behind a ring of one page, and in the share of a closed port, has no influence on the archive.
-#[test]
-fn the_archive_and_its_twin_agree() {
+/// Runs lists through the archive and a program made of it. The two memories are compared at the end of
+/// each list.
+fn agree_with<C: Core>(lists: u64, calls: u64, made: fn(Memory) -> C, memory: fn(&C) -> &Memory) {
     let begun = Instant::now();
     let seed = setting("KH_SEED", SEED);
-    for seed in (0..75).map(|number| seed.wrapping_add(number)) {
+    for seed in (0..lists).map(|number| seed.wrapping_add(number)) {
         let mut archive = Memory::new().expect("an archive of this package");
-        let mut twin = Twin::new(archive.clone());
-        let agreed = run(&mut [&mut archive, &mut twin], seed, TWIN_CALLS);
+        let mut other = made(archive.clone());
+        let agreed = run(&mut [&mut archive, &mut other], seed, calls);
         agreed.map(drop).unwrap_or_else(|at| panic!("{at}"));
-        assert!(archive == twin.core, "seed {seed}: the memories differ");
+        let same = archive == *memory(&other);
+        assert!(same, "seed {seed}: the memories differ");
     }
     println!("{:?}", begun.elapsed());
+}
+
+/// What is behind a ring of one page, and in the share of a closed port, has no influence on the archive. The
+/// lists are short, for their end is where the memories are compared.
+#[test]
+fn the_archive_and_its_twin_agree() {
+    agree_with(75, 2_000, Twin::new, |twin| &twin.core);
+}
+
+/// A completion is the list of one, and a list leaves what its completions would leave one by one: looked at
+/// after each call.
+#[test]
+fn completions_and_lists_exchanged_agree() {
+    agree_with(25, LIST_CALLS, Exchanged::new, |it| &it.memory);
 }
 
 #[test]

@@ -1,8 +1,8 @@
 //! The checker of demand 3 says no where it has to: histories made by hand, no backend in them.
 
 use generate::Ring;
-use kernelharp::layout::{Abi, Pages, PAGE_BYTES, REQ_EVENT};
-use kernelharp::words::turn;
+use kernelharp::layout::{Abi, Pages, PAGE_BYTES, REQ_EVENT, RSP_PROD};
+use kernelharp::words::{turn, MANY_WORDS};
 use tests::{faulty, usual_sheet_of, Pair, Story};
 
 #[test]
@@ -330,4 +330,158 @@ fn a_refused_call_that_writes() {
     story.complete(0, 0, 0, 6).unwrap();
     story.left[0] = 1;
     faulty(story.complete(0, 0, 0, 6), "a refused call changed");
+}
+
+/// Port 0 with this ring and three requests of the pairs above in flight, by tags 0 to 2.
+fn three_started(ring: Ring) -> Story {
+    let mut story = Story::of(ring, 9);
+    for (index, pair) in (0..).zip(ASKED) {
+        story.ask(ring, index, pair);
+        story
+            .started(0, u64::from(index), u64::from(index))
+            .unwrap();
+    }
+    story
+}
+
+/// The next call leaves a response with the status 0 on port 0's ring.
+fn answer_okay(story: &mut Story, ring: Ring, index: u32, pair: Pair) {
+    story.answer(ring, index, pair);
+    story.answer_status(ring, index, 0);
+}
+
+#[test]
+fn entries_answer_in_list_order() {
+    for ring in Ring::ALL {
+        let mut story = three_started(ring);
+        for (index, asked) in [(0, 2), (1, 0)] {
+            answer_okay(&mut story, ring, index, ASKED[asked]);
+        }
+        story
+            .complete_many(0, &[(2, 2), (0, 0)], &[0, 0], 0)
+            .unwrap();
+        answer_okay(&mut story, ring, 2, ASKED[1]);
+        story.complete(0, 1, 1, 0).unwrap();
+        // The same two pairs, the one in the other's place.
+        let mut story = three_started(ring);
+        for (index, asked) in [(0, 0), (1, 2)] {
+            answer_okay(&mut story, ring, index, ASKED[asked]);
+        }
+        let swapped = story.complete_many(0, &[(2, 2), (0, 0)], &[0, 0], 0);
+        faulty(swapped, "port 0: pairs taken");
+        // Both in slots of their own, but not those that are next.
+        let mut story = three_started(ring);
+        for (index, asked) in [(1, 2), (2, 0)] {
+            answer_okay(&mut story, ring, index, ASKED[asked]);
+        }
+        let later = story.complete_many(0, &[(2, 2), (0, 0)], &[0, 0], 0);
+        faulty(later, "port 0: pairs taken");
+    }
+}
+
+#[test]
+fn each_entry_is_one_completion() {
+    for ring in Ring::ALL {
+        let mut story = three_started(ring);
+        answer_okay(&mut story, ring, 0, ASKED[1]);
+        answer_okay(&mut story, ring, 1, ASKED[0]);
+        story
+            .complete_many(0, &[(1, 1), (0, 0)], &[0, 0], 0)
+            .unwrap();
+        assert_eq!(story.history.unfinished(0), 1);
+        faulty(story.complete(0, 0, 0, 0), "due was 6");
+        faulty(story.close(0, 0), "due was 5");
+        let again = story.complete_many(0, &[(2, 2), (1, 1)], &[0, 0], 0);
+        faulty(again, "due was 6");
+        // The freed tags come back, the lowest first.
+        faulty(story.started(0, 1, 3), "due were 0 and 3");
+        let mut story = three_started(ring);
+        story.publish_up_to(0, 99);
+        story.overrun(0).unwrap();
+        for index in 0..3 {
+            answer_okay(&mut story, ring, index, ASKED[index as usize]);
+        }
+        let all = [(0, 0), (1, 1), (2, 2)];
+        story.complete_many(0, &all, &[0; 3], 0).unwrap();
+        story.close(0, 0).unwrap();
+    }
+}
+
+#[test]
+fn refusals_of_lists_against_the_rule() {
+    let mut story = three_started(Ring::default());
+    for (names, due) in [
+        (vec![], 0),
+        (vec![(0, 0), (1, 1)], 0),
+        (vec![(0, 0), (1, 2)], 6),
+        (vec![(0, 0), (3, 3)], 6),
+        (vec![(32, 0)], 6),
+        (vec![(1 << 32, 0)], 6),
+        (vec![(0, 1 << 32)], 6),
+        (vec![(0, 0), (1, 1), (0, 0)], 6),
+        (vec![(0, 0); 64], 6),
+        (vec![(0, 0); 65], 7),
+        (vec![(9, 9); 200], 7),
+    ] {
+        for code in [0, 1, 2, 4, 6, 7] {
+            if code != due {
+                let words = format!("the call gave {code}, due was {due}");
+                faulty(story.complete_many(0, &names, &[], code), &words);
+            }
+        }
+        faulty(story.complete_many(8, &names, &[], due), "due was 2");
+        faulty(story.complete_many(1, &names, &[], due), "due was 4");
+        if due != 0 {
+            story.complete_many(0, &names, &[], due).unwrap();
+        }
+    }
+    for words in [1, 2, 4, 193, 196] {
+        for port in [0, 1, 8] {
+            let list = story.list(port, &vec![0; words], 6, &[0; MANY_WORDS]);
+            faulty(list, "due was 1");
+            let list = story.list(port, &vec![0; words], 1, &[0; MANY_WORDS]);
+            list.unwrap();
+        }
+    }
+}
+
+#[test]
+fn lists_that_write_what_they_may_not() {
+    let mut story = three_started(Ring::default());
+    story.left[0] ^= 1;
+    let refused = story.complete_many(0, &[(3, 3)], &[], 6);
+    faulty(refused, "a refused call changed");
+    for at in [RSP_PROD, 64, 8191] {
+        let mut story = three_started(Ring::ALL[2]);
+        story.left[at] ^= 1;
+        let empty = story.complete_many(0, &[], &[], 0);
+        faulty(empty, "an empty list changed");
+    }
+    let mut story = three_started(Ring::default());
+    story.answer(Ring::default(), 0, ASKED[0]);
+    story.left[PAGE_BYTES] ^= 1;
+    let behind = story.complete_many(0, &[(0, 0)], &[0], 0);
+    faulty(behind, "behind a ring");
+}
+
+#[test]
+fn lists_that_tell_something_else() {
+    let two = [(1, 1), (0, 0)];
+    for (statuses, words) in [
+        (
+            &[0, 1][..],
+            "entry 1 has the status -0 in the page, the answer tells -1",
+        ),
+        (&[0], "the answer of 2 entries tells of 1"),
+        (&[0, 0, 0], "the answer of 2 entries tells of 3"),
+        (&[u64::MAX, 0], "entry 0 has the status -0"),
+    ] {
+        let mut story = three_started(Ring::default());
+        answer_okay(&mut story, Ring::default(), 0, ASKED[1]);
+        answer_okay(&mut story, Ring::default(), 1, ASKED[0]);
+        faulty(story.complete_many(0, &two, statuses, 0), words);
+    }
+    let mut story = three_started(Ring::default());
+    let answer = [1; MANY_WORDS];
+    faulty(story.list(0, &[], 0, &answer), "names 1");
 }

@@ -1,20 +1,20 @@
 //! Both halves on one page (section 16 of docs/RULES.md): what is claimed of them holds of the second
 //! program's, and the checker of it says no to pairs in which either half is wrong.
 
-use generate::{run_halves, Core, GuestCore, Halves, HalvesReport, Ring};
+use generate::{run_halves, Core, GuestCore, Halves, HalvesReport, List, Ring};
 use history::{Event, HalvesEvent, HalvesHistory};
 use kernelharp::layout::{
     read_u32, read_u64, ring_mut, write_u32, Abi, Pages, GRANTS_BYTES, PAGE_BYTES, REQ_EVENT,
     REQ_PROD, RESPONSE_BYTES, RINGS_BYTES, RSP_EVENT, RSP_PROD, SLOT_BYTES,
 };
-use kernelharp::words::{done, kind, request, turn, TURN_WORDS};
-use kernelharp::words::{CollectWords, DoneWords, PutWords, RequestWords, TurnWords};
+use kernelharp::words::{done, kind, many, request, turn, TURN_WORDS};
+use kernelharp::words::{CollectWords, DoneWords, ManyWords, PutWords, RequestWords, TurnWords};
 use kernelharp::{Completion, Meter};
 use second::{Backend, Guest};
 use tests::{faulty, usual_sheet_of, Ask};
 
 /// The guest's port is 3, which is the seed modulo 8. Its disk has discards.
-const SEED: u64 = 0x6861_6C76_6573 / 8 * 8 + 131;
+const SEED: u64 = 0x6861_6C76_6573 / 8 * 8 + 67;
 const PORT: usize = 3;
 
 fn slot_at(index: u32) -> usize {
@@ -309,12 +309,24 @@ impl Core for FlawedBackend {
         code
     }
 
+    fn complete_many(&mut self, rings: &mut [u8], list: List, answer: &mut ManyWords) -> u32 {
+        let code = Core::complete_many(&mut self.backend, rings, list, answer);
+        if code == 0 && answer[many::PORT] == PORT as u64 && answer[many::COUNT] > 0 {
+            self.spoil_response(ring_mut(rings, PORT));
+        }
+        code
+    }
+
     fn meter_turn(&self, meter: &mut Meter, returned: u32, answer: &TurnWords) {
         self.backend.meter_turn(meter, returned, answer);
     }
 
     fn meter_completion(&self, meter: &mut Meter, returned: u32, answer: &DoneWords) {
         self.backend.meter_completion(meter, returned, answer);
+    }
+
+    fn meter_many(&self, meter: &mut Meter, returned: u32, answer: &ManyWords) {
+        self.backend.meter_many(meter, returned, answer);
     }
 }
 

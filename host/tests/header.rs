@@ -1,8 +1,8 @@
 //! The numbers of the Rust package are those of the C header, and so are those of the Rattle sources.
 
 use kernelharp::words::{
-    collect, done, extent, kind, put, request, segment, turn, COLLECT_WORDS, DONE_WORDS, PUT_WORDS,
-    REQUEST_WORDS, TURN_WORDS,
+    collect, done, entry, extent, kind, many, put, request, segment, turn, COLLECT_WORDS,
+    DONE_WORDS, MANY_WORDS, PUT_WORDS, REQUEST_WORDS, TURN_WORDS,
 };
 use kernelharp::{layout, Abi, Operation, Reason, Refusal, Status};
 use kernelharp::{GUEST_WORDS, MEMORY_WORDS, VERSION};
@@ -97,6 +97,7 @@ fn sizes_and_places() {
         ("KH_RESPONSE32_BYTES", layout::RESPONSE32_BYTES),
         ("KH_EXTENTS", layout::EXTENTS),
         ("KH_SEGMENTS", layout::SEGMENTS),
+        ("KH_ENTRIES", layout::ENTRIES),
     ]);
 }
 
@@ -131,6 +132,22 @@ fn words_of_a_backends_answers() {
         ("KH_ANSWERED", kind::ANSWERED as usize),
         ("KH_OVERRUN", kind::OVERRUN as usize),
     ]);
+}
+
+#[test]
+fn words_of_a_list() {
+    header_has([
+        ("KH_ENTRY_WORDS", entry::WORDS),
+        ("KH_ENTRY_TAG", entry::TAG),
+        ("KH_ENTRY_SERIAL", entry::SERIAL),
+        ("KH_ENTRY_RESULT", entry::RESULT),
+        ("KH_MANY_WORDS", MANY_WORDS),
+        ("KH_MANY_PORT", many::PORT),
+        ("KH_MANY_COUNT", many::COUNT),
+        ("KH_MANY_NOTIFY", many::NOTIFY),
+        ("KH_MANY_STATUSES", many::STATUSES),
+    ]);
+    assert_eq!(MANY_WORDS, 68, "a word to each entry there can be");
 }
 
 #[test]

@@ -7,7 +7,10 @@ use frontend::GuestRing;
 use generate::{Buffer, Call, Generator, Outcome, Ring, Step, World};
 use kernelharp::layout::{ring, PORTS, PORT_GRANTS, RING_BYTES};
 use kernelharp::live::{LiveBackend, NotOpened};
-use kernelharp::{Abi, Completion, Done, Name, Pages, Port, Refusal, Serial, Tag, Turn};
+use kernelharp::words::entry;
+use kernelharp::{
+    Abi, Completion, Done, DoneMany, Entry, Name, Pages, Port, Refusal, Serial, Tag, Turn,
+};
 use std::collections::HashSet;
 
 /// Eight guests' rings, and a backend over them.
@@ -16,6 +19,19 @@ struct Live {
     backend: LiveBackend,
     /// The kinds of rings that ports were opened with.
     opened: HashSet<Ring>,
+    /// Lists that completed more than one request.
+    listed: usize,
+}
+
+/// The entries of a list. One with a tag or serial beyond 32 bits has none; a result beyond them is another
+/// that nothing expects.
+fn typed(words: &[u64]) -> Option<Vec<Entry>> {
+    let entries = words.chunks_exact(entry::WORDS).map(|words| {
+        let [tag, serial] = [entry::TAG, entry::SERIAL].map(|at| u32::try_from(words[at]));
+        let result = i32::try_from(words[entry::RESULT] as i64).unwrap_or(i32::MIN);
+        Some(Entry::new(Tag(tag.ok()?), Serial(serial.ok()?), result))
+    });
+    entries.collect()
 }
 
 impl Live {
@@ -29,6 +45,7 @@ impl Live {
             rings,
             backend: LiveBackend::new().expect("an archive of this package"),
             opened: HashSet::new(),
+            listed: 0,
         }
     }
 
@@ -64,6 +81,7 @@ impl Live {
             }
             Call::Open { port, .. }
             | Call::Close { port }
+            | Call::CompleteMany { port, .. }
             | Call::Complete {
                 named: Completion { port, .. },
                 ..
@@ -103,6 +121,14 @@ impl Live {
                 let due = refused.map(|()| Done::from_words(&due.done).unwrap());
                 assert_eq!(done, due);
             }
+            Call::CompleteMany { ref entries, .. } => {
+                if let Some(entries) = typed(entries) {
+                    let done = backend.complete_many(port, &entries);
+                    let due = refused.map(|()| DoneMany::from_words(&due.many).unwrap());
+                    assert_eq!(done, due);
+                    self.listed += usize::from(done.is_ok() && entries.len() > 1);
+                }
+            }
             Call::Turn { .. } => unreachable!("a turn names no port"),
         }
     }
@@ -136,6 +162,7 @@ fn live_rings_end_up_as_lent_ones() {
         let sizes: HashSet<Pages> = live.opened.iter().map(|ring| ring.pages).collect();
         let kinds = (layouts.len(), sizes.len());
         assert_eq!(kinds, (2, 2), "seed {seed}: both layouts and sizes occur");
+        assert!(live.listed > 100, "seed {seed}: {} lists", live.listed);
         opened.extend(live.opened);
     }
     assert_eq!(opened.len(), Ring::ALL.len(), "every ring occurs");

@@ -5,9 +5,9 @@ use kernelharp::layout::{
     read_u32, write_u32, Abi, Pages, GRANTS_BYTES, HEADER_BYTES, PORTS, REQ_EVENT, REQ_PROD,
     RINGS_BYTES, RING_BYTES, RSP_PROD,
 };
-use kernelharp::words::{DONE_WORDS, TURN_WORDS};
+use kernelharp::words::{DONE_WORDS, MANY_WORDS, TURN_WORDS};
 use kernelharp::{
-    Completion, Done, Memory, Reason, Refusal, Serial, Status, Tag, Turn, MEMORY_WORDS,
+    Completion, Done, DoneMany, Memory, Reason, Refusal, Serial, Status, Tag, Turn, MEMORY_WORDS,
 };
 use tests::usual_sheet_of;
 
@@ -43,6 +43,17 @@ impl Bench {
             0 => Ok(Done::from_words(&words).expect("a completion's words")),
             code => {
                 assert_eq!(words, [UNTOUCHED; DONE_WORDS]);
+                Err(code)
+            }
+        }
+    }
+
+    fn complete_many(&mut self, port: u32, entries: &[u64]) -> Result<DoneMany, u32> {
+        let (mut words, rings) = ([UNTOUCHED; MANY_WORDS], &mut self.rings);
+        match self.memory.complete_many(rings, port, entries, &mut words) {
+            0 => Ok(DoneMany::from_words(&words).expect("a list's words")),
+            code => {
+                assert_eq!(words, [UNTOUCHED; MANY_WORDS]);
                 Err(code)
             }
         }
@@ -263,7 +274,7 @@ fn check_response(before: &[u8], after: &[u8], port: usize) {
 fn any_call(random: &mut Random, bench: &mut Bench) {
     let before = bench.rings.clone();
     let port = random.below(9) as u32;
-    match random.index(8) {
+    match random.index(10) {
         0 => check_code(
             bench
                 .memory
@@ -278,6 +289,21 @@ fn any_call(random: &mut Random, bench: &mut Bench) {
                 result: 8,
             };
             match bench.complete(named) {
+                Ok(done) => check_response(&before, &bench.rings, done.port.index()),
+                Err(code) => {
+                    check_code(code);
+                    assert!(before == bench.rings);
+                }
+            }
+        }
+        5 | 6 => {
+            let length = random.pick(&[0, 3, 6, 30, 96, 192, 195, 4]);
+            let entries: Vec<u64> = (0..length).map(|_| any_word(random)).collect();
+            match bench.complete_many(port, &entries) {
+                Ok(done) if entries.is_empty() => {
+                    assert!(done.statuses().is_empty() && !done.notify);
+                    assert!(before == bench.rings);
+                }
                 Ok(done) => check_response(&before, &bench.rings, done.port.index()),
                 Err(code) => {
                     check_code(code);

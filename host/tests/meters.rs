@@ -2,8 +2,9 @@
 
 use generate::{meter_of, numbers, Core, UNTOUCHED};
 use history::Record;
-use kernelharp::layout::{Abi, GRANTS_BYTES, PORTS, RINGS_BYTES};
-use kernelharp::words::{done, kind, turn, DoneWords, TurnWords, DONE_WORDS, TURN_WORDS};
+use kernelharp::layout::{Abi, ENTRIES, GRANTS_BYTES, PORTS, RINGS_BYTES};
+use kernelharp::words::{done, kind, many, turn, DONE_WORDS, MANY_WORDS, TURN_WORDS};
+use kernelharp::words::{DoneWords, ManyWords, TurnWords};
 use kernelharp::{Completion, Memory, Meter};
 use second::{Backend, Plan, Turned};
 use std::hint::black_box;
@@ -62,6 +63,13 @@ fn after_completion(record: Record, returned: u32, words: &DoneWords) -> Record 
     handed(record, words, hand_over)
 }
 
+fn after_list(record: Record, returned: u32, words: &ManyWords) -> Record {
+    let hand_over = |core: &dyn Core, meter: &mut Meter, words: &ManyWords| {
+        core.meter_many(meter, returned, words);
+    };
+    handed(record, words, hand_over)
+}
+
 /// The words of a turn with this kind and this status, and others that mean nothing.
 fn turn_of(kind: u64, status: u64) -> TurnWords {
     let mut words = [UNTOUCHED; TURN_WORDS];
@@ -73,6 +81,15 @@ fn turn_of(kind: u64, status: u64) -> TurnWords {
 fn completion_of(status: u64) -> DoneWords {
     let mut words = [UNTOUCHED; DONE_WORDS];
     words[done::STATUS] = status;
+    words
+}
+
+/// The words of a list that is said to have so many entries; their statuses first, and others that mean
+/// nothing.
+fn list_of(count: u64, statuses: &[u64]) -> ManyWords {
+    let mut words = [UNTOUCHED; MANY_WORDS];
+    words[many::COUNT] = count;
+    words[many::STATUSES..][..statuses.len()].copy_from_slice(statuses);
     words
 }
 
@@ -352,5 +369,106 @@ fn rule_15_11_any_status() {
         due[0] = 1;
         let left = after_turn([0; 4], 0, &turn_of(kind::ANSWERED, status));
         assert_eq!(left, due, "answered with {status:#x}");
+    }
+}
+
+/// So many as the answer says, 64 at most; what stands behind them is not looked at.
+#[test]
+fn rule_15_12_entries_that_count() {
+    for (status, at) in [(0, 1), (1, 2), (2, 3)] {
+        let statuses = [status; ENTRIES];
+        for (count, raised) in (0..=64).map(|count| (count, count)).chain(
+            [
+                65,
+                66,
+                68,
+                1 << 16,
+                1 << 32,
+                (1 << 32) + 1,
+                1 << 63,
+                u64::MAX,
+            ]
+            .map(|it| (it, 64)),
+        ) {
+            let mut due = [7; 4];
+            due[at] += raised;
+            let left = after_list([7; 4], 0, &list_of(count, &statuses));
+            assert_eq!(left, due, "status {status}, {count:#x} entries");
+        }
+    }
+}
+
+#[test]
+fn rule_15_12_any_status() {
+    for other in [
+        3,
+        255,
+        256,
+        0xFFFE,
+        0xFFFF,
+        1 << 32,
+        (1 << 32) + 1,
+        1 << 63,
+        u64::MAX,
+    ] {
+        let words = list_of(5, &[2, other, 0, 1, 1, 0]);
+        assert_eq!(after_list([0; 4], 0, &words), [0, 1, 2, 1], "{other:#x}");
+    }
+}
+
+#[test]
+fn rule_15_12_a_refused_list_raises_nothing() {
+    let record = [1, 2, 3, 4];
+    for returned in [1, 2, 4, 6, 7, 255, 1 << 16, 1 << 31, u32::MAX] {
+        for status in 0..3 {
+            let words = list_of(64, &[status; ENTRIES]);
+            assert_eq!(after_list(record, returned, &words), record);
+        }
+    }
+}
+
+/// Each number ends by itself, in the middle of a list too.
+#[test]
+fn rule_15_12_numbers_end_within_a_list() {
+    let statuses: Vec<u64> = (0..60).map(|at| at % 3).collect();
+    let words = list_of(60, &statuses);
+    for at in 1..4 {
+        for before in [0, 1, 19, 20, 21] {
+            let mut record = [5; 4];
+            record[at] = u64::MAX - before;
+            let mut due = [5, 25, 25, 25];
+            due[at] = (u64::MAX - before).saturating_add(20);
+            assert_eq!(after_list(record, 0, &words), due, "number {at}, {before}");
+        }
+    }
+    let full = [u64::MAX; 4];
+    assert_eq!(after_list(full, 0, &words), full);
+}
+
+/// By calls: what each list raises, an empty one and refused ones too.
+#[test]
+fn rule_15_12_lists_of_a_port() {
+    for mut bench in benches() {
+        let plans: Vec<Plan> = (0..7).map(|_| start(&mut bench)).collect();
+        let entries: Vec<u64> = plans
+            .iter()
+            .zip([8, 7, -95i64, 8, 8, -5, 8])
+            .flat_map(|(plan, result)| [plan.tag.into(), plan.serial.into(), result as u64])
+            .collect();
+        for (words, code) in [(0..20, 1), (0..0, 0), (18..21, 0), (15..21, 6)] {
+            let record = bench.backend.records.of(0);
+            let list = &entries[words.clone()];
+            let came = bench
+                .complete_many(0, list)
+                .map_or_else(|it| it as u32, |_| 0);
+            assert_eq!(came, code);
+            let raised = u64::from(code == 0) * words.len() as u64 / 3;
+            let [taken, okay, ..] = record;
+            assert_eq!(bench.backend.records.of(0), [taken, okay + raised, 0, 0]);
+        }
+        assert_eq!(bench.refused_list(1, &entries), 4);
+        assert_eq!(bench.refused_list(0, &entries.repeat(10)), 7);
+        bench.complete_many(0, &entries[..18]).unwrap();
+        assert_eq!(bench.backend.records.of(0), [7, 4, 2, 1]);
     }
 }

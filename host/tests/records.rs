@@ -36,6 +36,20 @@ fn each_entry_counts_as_it_should() {
         story.complete(0, 0, 0, 6).unwrap();
         story.complete(8, 0, 0, 2).unwrap();
         story.records(&[(0, [4, 1, 1, 2])]).unwrap();
+        story.started(0, 0, 4).unwrap();
+        story.started(0, 1, 5).unwrap();
+        let twice = [(0, 4), (1, 5), (1, 5)];
+        story.complete_many(0, &twice, &[], 6).unwrap();
+        story.records(&[(0, [6, 1, 1, 2])]).unwrap();
+        story.answer_status(abi, 4, -1);
+        story.answer_status(abi, 5, 0);
+        let once = [(1, 5), (0, 4)];
+        story.complete_many(0, &once, &[1, 0], 0).unwrap();
+        story.records(&[(0, [6, 2, 2, 2])]).unwrap();
+        story.complete_many(0, &[], &[], 0).unwrap();
+        story.records(&[(0, [6, 2, 2, 2])]).unwrap();
+        let counted = story.records(&[(0, [6, 3, 1, 2])]);
+        faulty(counted, "port 0: okay is 3 in the record, counted 2");
     }
 }
 

@@ -3,7 +3,7 @@
 
 use kernelharp::layout::{GRANTS_BYTES, PORT_GRANTS, RINGS_BYTES, RING_BYTES};
 use kernelharp::Completion;
-use second::{Done, Plan, Refusal, Turned};
+use second::{Done, DoneMany, Plan, Refusal, Turned};
 use std::fmt::Write;
 use std::str::FromStr;
 use tests::Both;
@@ -16,9 +16,7 @@ struct Words<'a>(std::str::Split<'a, char>);
 
 impl Words<'_> {
     fn next<T: FromStr>(&mut self) -> T {
-        let word = self.0.next().expect("one more number");
-        word.parse()
-            .unwrap_or_else(|_| panic!("{word} is no number"))
+        number(self.0.next().expect("one more number"))
     }
 
     fn completion(&mut self) -> Completion {
@@ -30,9 +28,14 @@ impl Words<'_> {
         }
     }
 
-    fn rest(self) -> Vec<u8> {
-        self.0.map(|word| word.parse().expect("a byte")).collect()
+    fn rest<T: FromStr>(self) -> Vec<T> {
+        self.0.map(number).collect()
     }
+}
+
+fn number<T: FromStr>(word: &str) -> T {
+    word.parse()
+        .unwrap_or_else(|_| panic!("{word} is no number"))
 }
 
 fn notify(wanted: bool) -> &'static str {
@@ -105,6 +108,19 @@ fn completed(answer: Result<Done, Refusal>) -> String {
     }
 }
 
+fn listed(answer: Result<DoneMany, Refusal>) -> String {
+    match answer {
+        Err(refusal) => format!("list refused {}", refusal as u32),
+        Ok(done) => {
+            let mut line = "list done".to_string();
+            for status in done.statuses {
+                write!(line, " {}", status as i16).unwrap();
+            }
+            line + notify(done.notify)
+        }
+    }
+}
+
 /// A backend and the pages lent to it.
 struct Host {
     backend: Both,
@@ -127,7 +143,7 @@ impl Host {
         match letter {
             "b" => {
                 let at = words.next::<usize>() * RING_BYTES + words.next::<usize>();
-                let bytes = words.rest();
+                let bytes: Vec<u8> = words.rest();
                 rings[at..at + bytes.len()].copy_from_slice(&bytes);
                 None
             }
@@ -136,22 +152,29 @@ impl Host {
                 grants[at] = words.next();
                 None
             }
-            "o" => Some(plain("open", backend.open(words.next(), &words.rest()))),
+            "o" => {
+                let port = words.next();
+                Some(plain("open", backend.open(port, &words.rest::<u8>())))
+            }
             "c" => Some(plain("close", backend.close(words.next()))),
             "t" => Some(turned(backend.turn(rings, grants))),
             "T" => {
                 let rings = &mut rings[..words.next()];
                 Some(turned(backend.turn(rings, &grants[..words.next()])))
             }
-            "f" | "F" => {
-                let length = if letter == "F" {
-                    words.next()
-                } else {
-                    RINGS_BYTES
+            "f" | "F" | "l" | "L" => {
+                let length = match letter {
+                    "F" | "L" => words.next(),
+                    _ => RINGS_BYTES,
                 };
-                let named = words.completion();
-                let done = backend.complete(&mut rings[..length], named);
-                Some(completed(done))
+                let rings = &mut rings[..length];
+                Some(match letter {
+                    "f" | "F" => completed(backend.complete(rings, words.completion())),
+                    _ => {
+                        let port = words.next();
+                        listed(backend.complete_many(rings, port, &words.rest::<u64>()))
+                    }
+                })
             }
             "m" => {
                 let [taken, okay, error, not_supported] = backend.records.of(words.next());

@@ -1,14 +1,15 @@
 //! Wrong programs about the size of rings and the wrap of their indices: the comparison finds each of them,
 //! and the checker of demand 3 by itself all that it speaks of.
 
-use generate::{run, Core, Ring};
+use generate::{Core, List, Ring};
 use kernelharp::layout::{
     read_u32, ring, ring_mut, write_u32, Abi, Pages, HEADER_BYTES, PAGE_BYTES, PAGE_SLOTS, PORTS,
     REQ_PROD, RINGS_BYTES, RING_BYTES,
 };
-use kernelharp::words::{done, kind, turn, DoneWords, TurnWords};
+use kernelharp::words::{done, entry, kind, many, turn, DoneWords, ManyWords, TurnWords};
 use kernelharp::{Completion, Meter};
 use second::Backend;
+use tests::{find_alone, find_beside};
 
 const SEED: u64 = 0x7269_6E67_7300;
 /// The longest list that a flaw may need to be found.
@@ -294,12 +295,39 @@ impl Core for Flawed {
         code
     }
 
+    fn complete_many(&mut self, rings: &mut [u8], list: List, answer: &mut ManyWords) -> u32 {
+        let (port, mut misread) = (list.port, list.entries.to_vec());
+        for entry in misread.chunks_exact_mut(entry::WORDS) {
+            if let Ok(tag) = u32::try_from(entry[entry::TAG]) {
+                entry[entry::TAG] = self.misread_tag(port, tag).into();
+            }
+        }
+        let entries = &misread;
+        let code = self.lend(rings, |backend, rings| {
+            Core::complete_many(backend, rings, List { port, entries }, answer)
+        });
+        if code == 0 {
+            let number = port as usize;
+            if let Some(port) = &mut self.ports[number] {
+                port.in_flight -= answer[many::COUNT] as u32;
+            }
+            if rings.len() == RINGS_BYTES && answer[many::COUNT] > 0 {
+                self.look_behind(rings, number, &mut answer[many::NOTIFY]);
+            }
+        }
+        code
+    }
+
     fn meter_turn(&self, meter: &mut Meter, returned: u32, answer: &TurnWords) {
         self.backend.meter_turn(meter, returned, answer);
     }
 
     fn meter_completion(&self, meter: &mut Meter, returned: u32, answer: &DoneWords) {
         self.backend.meter_completion(meter, returned, answer);
+    }
+
+    fn meter_many(&self, meter: &mut Meter, returned: u32, answer: &ManyWords) {
+        self.backend.meter_many(meter, returned, answer);
     }
 
     fn skip(&mut self, port: usize, requests: u32) {
@@ -312,20 +340,11 @@ impl Core for Flawed {
 
 #[test]
 fn flawed_rings_are_found() {
-    for flaw in AGAINST_DEMAND_3.into_iter().chain([Flaw::BehindRead]) {
-        let mut flawed = Flawed::new(flaw);
-        let failure = run(&mut [&mut Backend::new(), &mut flawed], SEED, CALLS)
-            .expect_err("a flawed program agrees with the second");
-        println!("{flaw:?}: {failure}");
-    }
+    let flaws = AGAINST_DEMAND_3.into_iter().chain([Flaw::BehindRead]);
+    find_beside(flaws, Flawed::new, SEED, CALLS);
 }
 
 #[test]
 fn flawed_rings_are_found_without_a_second_program() {
-    for flaw in AGAINST_DEMAND_3 {
-        let mut flawed = Flawed::new(flaw);
-        let failure =
-            run(&mut [&mut flawed], SEED, CALLS).expect_err("a flawed program keeps demand 3");
-        println!("{flaw:?}: {failure}");
-    }
+    find_alone(AGAINST_DEMAND_3, Flawed::new, SEED, CALLS);
 }

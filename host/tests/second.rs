@@ -1,9 +1,9 @@
 //! Long random runs: the second program alone with the checker of demand 3 and the census, and the
 //! comparison of two programs.
 
-use generate::{run, Core, Generator, Ring, Step, World};
+use generate::{run, Core, Generator, List, Ring, Step, World};
 use kernelharp::layout::{read_u32, ring, ring_mut, write_u32, Abi, PORTS, RSP_PROD};
-use kernelharp::words::{done, kind, turn, DoneWords, TurnWords};
+use kernelharp::words::{done, kind, turn, DoneWords, ManyWords, TurnWords};
 use kernelharp::{Completion, Meter};
 use second::{Backend, Refusal};
 use tests::Twin;
@@ -292,6 +292,10 @@ impl Core for Flawed {
         code
     }
 
+    fn complete_many(&mut self, rings: &mut [u8], list: List, answer: &mut ManyWords) -> u32 {
+        Core::complete_many(&mut self.backend, rings, list, answer)
+    }
+
     fn meter_turn(&self, meter: &mut Meter, returned: u32, answer: &TurnWords) {
         let (mut returned, mut words) = (returned, *answer);
         self.misread(&mut returned, &mut words[turn::STATUS]);
@@ -314,6 +318,10 @@ impl Core for Flawed {
         self.raise(meter, |meter| {
             self.backend.meter_completion(meter, returned, &words)
         });
+    }
+
+    fn meter_many(&self, meter: &mut Meter, returned: u32, answer: &ManyWords) {
+        self.backend.meter_many(meter, returned, answer);
     }
 }
 

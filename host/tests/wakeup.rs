@@ -7,7 +7,7 @@
 use frontend::{EventChannel, Frontend, GuestRing, Request};
 use generate::{Random, Ring};
 use kernelharp::live::{LiveBackend, SharedRing};
-use kernelharp::{Backend, Plan, Port, Segment, Turn};
+use kernelharp::{Backend, Entry, Plan, Port, Segment, Turn};
 use std::sync::atomic::{fence, Ordering};
 use std::thread;
 use std::time::{Duration, Instant};
@@ -15,6 +15,7 @@ use tests::usual_sheet_of;
 use tests::wakeup::{lost, orders, Bells, Lockstep, Side, Word, BOUND};
 
 const READ: u8 = 0;
+const UNKNOWN: u8 = 9;
 
 /// A read of one sector, which passes every check.
 fn read(id: u64) -> Request {
@@ -110,11 +111,12 @@ fn request_is_lost(order: &[Side], looks: usize) -> bool {
     !served && !to_host.heard()
 }
 
-/// A guest goes to sleep while the host gives its response. Says whether the guest sleeps over a
-/// response that nobody rings for.
-fn response_is_lost(order: &[Side], word: Word) -> bool {
+/// A guest goes to sleep while the host gives so many responses at once. Says whether the guest sleeps over
+/// responses that nobody rings for.
+fn response_is_lost(order: &[Side], word: Word, responses: u32) -> bool {
     let mut pair = Pair::warm();
-    let plan = pair.start(2);
+    let ids = (2..).take(responses as usize);
+    let plans: Vec<Plan> = ids.map(|id| pair.start(id)).collect();
     let Pair {
         frontend,
         mut backend,
@@ -130,9 +132,9 @@ fn response_is_lost(order: &[Side], word: Word) -> bool {
     };
     let host = |step| match step {
         0 => ring.copy_rsp_event_in(backend.ring_mut(port)),
-        1 => said = complete(&mut backend, &plan),
+        1 => said = complete(&mut backend, port, &plans),
         _ => {
-            let seen = ring.copy_response_out(backend.ring(port), said);
+            let seen = ring.copy_responses_out(responses, backend.ring(port), said);
             if said || (seen && word == Word::OfTheSecondLook) {
                 to_guest.notify();
             }
@@ -142,9 +144,15 @@ fn response_is_lost(order: &[Side], word: Word) -> bool {
     !awake && !to_guest.heard()
 }
 
-fn complete(backend: &mut Backend, plan: &Plan) -> bool {
-    let done = backend.complete(plan.name, plan.expected_result());
-    done.unwrap().notify
+/// One plan by itself, several by a list.
+fn complete(backend: &mut Backend, port: Port, plans: &[Plan]) -> bool {
+    if let [plan] = plans {
+        let done = backend.complete(plan.name, plan.expected_result());
+        return done.unwrap().notify;
+    }
+    let entry = |plan: &Plan| Entry::of(plan.name, plan.expected_result());
+    let entries: Vec<Entry> = plans.iter().map(entry).collect();
+    backend.complete_many(port, &entries).unwrap().notify
 }
 
 /// Those that look at req_prod before the request is published, and set req_event after the guest
@@ -162,27 +170,33 @@ fn no_request_is_slept_over_after_a_second_look() {
 }
 
 /// Those in which the call is lent rsp_event before the guest sets it, and rsp_prod goes out after
-/// the guest's last look at it.
+/// the guest's last look at it. With a list it is no other.
 #[test]
 fn a_response_is_slept_over_by_the_word_of_the_call() {
-    let by_call = |order: &[Side]| response_is_lost(order, Word::OfTheCall);
-    assert_eq!(lost(&orders(3, 3), by_call), (7, 20));
+    for responses in [1, 2, 5] {
+        let by_call = |order: &[Side]| response_is_lost(order, Word::OfTheCall, responses);
+        assert_eq!(lost(&orders(3, 3), by_call), (7, 20));
+    }
 }
 
 #[test]
 fn no_response_is_slept_over_after_a_second_look() {
-    let by_second_look = |order: &[Side]| response_is_lost(order, Word::OfTheSecondLook);
-    assert_eq!(lost(&orders(3, 3), by_second_look), (0, 20));
+    for responses in [1, 2, 5] {
+        let word = Word::OfTheSecondLook;
+        let by_second_look = |order: &[Side]| response_is_lost(order, word, responses);
+        assert_eq!(lost(&orders(3, 3), by_second_look), (0, 20));
+    }
 }
 
 /// A free run ends with whichever comes first.
 const REQUESTS: u64 = 75_000;
 const RUN_FOR: Duration = Duration::from_secs(2);
 
-/// A guest that sends requests in small lots, some of them unknown operations, and sleeps until each
-/// lot has its responses.
+/// A guest that sends requests in small lots, and sleeps until each lot has its responses.
 struct Asker<'a> {
     frontend: Frontend,
+    /// Those that it asks for.
+    operations: &'static [u8],
     bells: &'a Bells,
     random: Random,
     sent: u64,
@@ -208,7 +222,7 @@ impl Asker<'_> {
 
     fn ask(&mut self) {
         let mut request = read(self.sent);
-        request.operation = self.random.pick(&[READ, READ, 9]);
+        request.operation = self.random.pick(self.operations);
         self.frontend.put(&request);
         self.sent += 1;
         if self.random.chance(50) {
@@ -240,13 +254,20 @@ impl Asker<'_> {
 #[test]
 fn nobody_sleeps_over_anything_in_a_free_run() {
     for ring in [Ring::ALL[0], Ring::ALL[3]] {
-        let sent = free_run(ring);
+        let serve = |bells: &Bells, backend, _| bells.serve(backend);
+        let sent = free_run(ring, &[READ, READ, UNKNOWN], serve);
         println!("{ring}: {sent} requests, each with its response");
+        let sent = free_run(ring, &[READ], Bells::serve_by_lists);
+        println!("{ring}: {sent} requests, by lists");
     }
 }
 
 /// Gives how many requests were sent.
-fn free_run(ring: Ring) -> u64 {
+fn free_run(
+    ring: Ring,
+    operations: &'static [u8],
+    serve: impl FnOnce(&Bells, LiveBackend, Port) + Send,
+) -> u64 {
     let (memory, port) = (GuestRing::new(), Port::try_from(0).unwrap());
     let Ring { abi, pages } = ring;
     let mut backend = LiveBackend::new().unwrap();
@@ -256,9 +277,10 @@ fn free_run(ring: Ring) -> u64 {
     backend.grants_mut(port)[0] = 2;
     let bells = Bells::default();
     thread::scope(|scope| {
-        scope.spawn(|| bells.serve(backend));
+        scope.spawn(|| serve(&bells, backend, port));
         let asker = Asker {
             frontend: Frontend::new(memory, abi, pages),
+            operations,
             bells: &bells,
             random: Random::new(8),
             sent: 0,

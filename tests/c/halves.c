@@ -277,6 +277,22 @@ static void complete_one(pair *p, host *h, uint32_t tag) {
     note_answer(p, h, p->of_tag[tag], words(h, COMPLETED)[KH_DONE_NOTIFY] != 0);
 }
 
+/* Completes busy tags from `tag` on in one call, so many at most: the guest collects them in that order. */
+static void complete_some(pair *p, host *h, uint32_t tag, size_t most) {
+    list l = {.count = 0};
+    uint32_t first = h->books[0].answered;
+    for (uint32_t i = 0; i < KH_TAGS && l.count < most; i++, tag++)
+        if (is_busy(&h->books[0], tag)) {
+            uint32_t at = tag % KH_TAGS, number = p->of_tag[at];
+            p->answered[(first + l.count) % KH_PAGE_SLOTS] = number;
+            add_entry(&l, at, h->books[0].tags[at].serial, (int32_t)result_of(h, at, number));
+        }
+    lend_page(h);
+    CHECK_EQ(COMPLETE_LIST(h, 0, &l), KH_OK);
+    hand_back(h);
+    p->heard |= words(h, LISTED)[KH_MANY_NOTIFY] != 0;
+}
+
 static void collect_one(pair *p, host *h) {
     kh_collected collected;
     uint32_t number = p->answered[p->collected % KH_PAGE_SLOTS];
@@ -296,8 +312,10 @@ static void step_pair(pair *p, host *h, uint32_t stretch) {
     uint32_t draw = below(8 + stretch % 3 * 3);
     if (draw < 2 && p->looking)
         turn_once(p, h);
-    else if (draw < 4)
+    else if (draw < 3)
         complete_one(p, h, below(KH_TAGS));
+    else if (draw < 4)
+        complete_some(p, h, draw * stretch, stretch % 16);
     else if (draw < 6 && p->heard)
         collect_one(p, h);
     else if (draw >= 6)
@@ -363,7 +381,7 @@ static void secure_flag_ignored(host *h) {
     one_by_one(h, true);
 }
 
-/* Whole rings at a time. */
+/* Whole rings at a time, completed one by one or in one list. */
 static void full_rings(host *h) {
     pair p = {.looking = true, .heard = true};
     BEGIN(h, ALL_FEATURES);
@@ -372,8 +390,11 @@ static void full_rings(host *h) {
             send_one(&p, h);
         for (unsigned i = 0; i <= KH_PAGE_SLOTS; i++)
             turn_once(&p, h);
-        for (unsigned i = 0; i < KH_PAGE_SLOTS; i++)
+        for (unsigned i = 0; round % 2 == 0 && i < KH_PAGE_SLOTS; i++)
             complete_one(&p, h, 7 * i + round);
+        if (round % 2 != 0)
+            complete_some(&p, h, 7 * round, KH_ENTRIES);
+        CHECK(p.heard);
         for (unsigned i = 0; i <= KH_PAGE_SLOTS; i++)
             collect_one(&p, h);
         CHECK_EQ(p.collected, KH_PAGE_SLOTS * (round + 1));

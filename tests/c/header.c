@@ -20,8 +20,8 @@ static void check_named(const int *names, size_t count, int first) {
 }
 
 static void check_names(void) {
-    static const int calls[] = {KH_OK,        KH_WRONG_LENGTH, KH_NO_PORT, KH_NOT_CLOSED,
-                                KH_IS_CLOSED, KH_IN_FLIGHT,    KH_NOT_BUSY};
+    static const int calls[] = {KH_OK,        KH_WRONG_LENGTH, KH_NO_PORT,  KH_NOT_CLOSED,
+                                KH_IS_CLOSED, KH_IN_FLIGHT,    KH_NOT_BUSY, KH_TOO_MANY};
     static const int sheets[] = {KH_SHEET_SHAPE, KH_SHEET_NODES, KH_SHEET_TEXT, KH_SHEET_NUMBER, KH_SHEET_MISSING};
     static const int unsupported[] = {KH_UNKNOWN_OPERATION, KH_FEATURE_OFF};
     static const int errors[] = {KH_READ_ONLY,   KH_WRONG_AMOUNT, KH_WRONG_SEGMENT,
@@ -120,6 +120,20 @@ static void check_started_read(const kh_turned *turned) {
     CHECK(extent->frame == 9 && extent->first == 0 && extent->length == 8 && extent->sector == 8);
 }
 
+/* A list of port 1, which has nothing in flight: refused, and then empty. */
+static void check_list_call(kh_meter *meter) {
+    uint64_t entries[KH_ENTRY_WORDS], answer[KH_MANY_WORDS];
+    uint32_t returned;
+    kh_write_entry(entries, 0, 0, 0, 8);
+    CHECK_EQ(kh_complete_many(&memory, rings, sizeof rings, 1, entries, 2, answer), KH_WRONG_LENGTH);
+    CHECK_EQ(kh_complete_many(&memory, rings, sizeof rings, 1, entries, KH_ENTRY_WORDS, answer), KH_NOT_BUSY);
+    returned = kh_complete_many(&memory, rings, sizeof rings, 1, NULL, 0, answer);
+    CHECK_EQ(returned, KH_OK);
+    kh_meter_many(meter, returned, answer);
+    CHECK(kh_read_many(answer).port == 1 && kh_read_many(answer).count == 0 && !kh_read_many(answer).notify);
+    CHECK(meter->taken == 1 && meter->okay == 1 && meter->error == 0 && meter->not_supported == 0);
+}
+
 /* The calls, once each, as a host would. */
 static void check_calls(void) {
     static const uint8_t sheet[21] = {3, 1, 0, 1, 0, 6, 0, 3, 0, 7, 0, 4, 0, 'w', '5', '1', '2', '2', '0', '0', '8'};
@@ -145,6 +159,7 @@ static void check_calls(void) {
     CHECK(meter.taken == 1 && meter.okay == 1 && meter.error == 0 && meter.not_supported == 0);
     completed = kh_read_completion(done);
     CHECK(completed.port == 1 && completed.status == KH_OKAY && completed.notify);
+    check_list_call(&meter);
     CHECK_EQ(kh_close(&memory, 1), KH_OK);
 }
 
@@ -170,6 +185,40 @@ static void check_completion_reader(void) {
     static const uint64_t done[KH_DONE_WORDS] = {7, 2, 1, 0};
     kh_completed completed = kh_read_completion(done);
     CHECK(completed.port == 7 && completed.status == KH_NOT_SUPPORTED && completed.notify);
+}
+
+/* Places, and statuses with their sign. */
+static void check_list_reader(void) {
+    uint64_t answer[KH_MANY_WORDS] = {7, 3, 1, 0, 0, 1, 2};
+    kh_completed_many completed = kh_read_many(answer);
+    size_t i;
+    CHECK(completed.port == 7 && completed.count == 3 && completed.notify);
+    CHECK(completed.statuses[0] == KH_OKAY && completed.statuses[1] == KH_ERROR);
+    CHECK_EQ(completed.statuses[2], KH_NOT_SUPPORTED);
+    for (i = 3; i < KH_ENTRIES; i++)
+        CHECK_EQ(completed.statuses[i], 0);
+    answer[KH_MANY_NOTIFY] = 0;
+    for (i = 0; i < KH_ENTRIES; i++)
+        answer[4 + i] = i;
+    completed = kh_read_many(answer);
+    CHECK(!completed.notify);
+    for (i = 0; i < KH_ENTRIES; i++)
+        CHECK_EQ(completed.statuses[i], -(int32_t)i);
+}
+
+/* A result keeps its sign, and the words of other entries stay. */
+static void check_entry_writer(void) {
+    uint64_t words[3 * KH_ENTRY_WORDS];
+    size_t i;
+    CHECK_EQ(KH_ENTRIES, 64);
+    CHECK_EQ(KH_ENTRY_WORDS, 3);
+    for (i = 0; i < COUNT_OF(words); i++)
+        words[i] = 100 + i;
+    kh_write_entry(words, 1, UINT32_MAX, 5, -95);
+    CHECK(words[3] == UINT32_MAX && words[4] == 5 && words[5] == UINT64_MAX - 94);
+    kh_write_entry(words, 1, 63, UINT32_MAX, INT32_MAX);
+    CHECK(words[3] == 63 && words[4] == UINT32_MAX && words[5] == INT32_MAX);
+    CHECK(words[2] == 102 && words[6] == 106);
 }
 
 /* Each word where the interface has it, and zero where it has none. */
@@ -238,6 +287,8 @@ int main(void) {
     check_calls();
     check_turn_reader();
     check_completion_reader();
+    check_list_reader();
+    check_entry_writer();
     check_request_writer();
     check_collected_reader();
     check_guest_calls();

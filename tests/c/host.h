@@ -13,7 +13,21 @@
 enum { WITHDRAWN = 23 };
 
 /* What was lent, in the order of the buffers below: to the backend's calls, then to a guest's (front.h has those). */
-enum area { MEMORY, RINGS, GRANTS, TURNED, COMPLETED, METERS, GUEST, PAGE, REQUEST, PUT_ANSWER, COLLECT_ANSWER, AREAS };
+enum area {
+    MEMORY,
+    RINGS,
+    GRANTS,
+    TURNED,
+    COMPLETED,
+    LISTED,
+    METERS,
+    GUEST,
+    PAGE,
+    REQUEST,
+    PUT_ANSWER,
+    COLLECT_ANSWER,
+    AREAS
+};
 
 typedef struct {
     uint64_t id;
@@ -154,6 +168,7 @@ static inline void reset(host *h) {
                                         [GRANTS] = KH_GRANTS_BYTES,
                                         [TURNED] = 8 * KH_TURN_WORDS,
                                         [COMPLETED] = 8 * KH_DONE_WORDS,
+                                        [LISTED] = 8 * KH_MANY_WORDS,
                                         [METERS] = KH_PORTS * sizeof(kh_meter),
                                         [GUEST] = 8 * KH_GUEST_WORDS,
                                         [PAGE] = KH_GUEST_PAGE_BYTES,
@@ -184,8 +199,8 @@ static inline void remember(const host *h) {
 
 static inline void check_same(const host *h, enum area area) {
     static const char *const names[AREAS] = {
-        "memory",       "rings", "grants",  "turn's answer", "completion's answer", "meters",
-        "guest memory", "page",  "request", "put's answer",  "collect's answer"};
+        "memory", "rings",        "grants", "turn's answer", "completion's answer", "list's answer",
+        "meters", "guest memory", "page",   "request",       "put's answer",        "collect's answer"};
     size_t i = 0;
     if (h->bytes[area] == 0 || memcmp(h->at[area], h->before[area], h->bytes[area]) == 0)
         return;
@@ -216,7 +231,9 @@ static inline void count_status(kh_meter *counts, uint64_t status) {
 static inline void raise_meter(const host *h, enum area area, kh_meter *meter, uint32_t number) {
     memcpy(h->before[area], h->at[area], h->bytes[area]);
     allow_writes(h->at[area], h->bytes[area], false);
-    (area == TURNED ? kh_meter_turn : kh_meter_completion)(meter, number, words(h, area));
+    (area == TURNED   ? kh_meter_turn
+     : area == LISTED ? kh_meter_many
+                      : kh_meter_completion)(meter, number, words(h, area));
     allow_writes(h->at[area], h->bytes[area], true);
     check_same(h, area);
 }
@@ -228,18 +245,24 @@ static inline void hand_over(const host *h, enum area area, uint32_t number, uin
     check_same(h, METERS);
 }
 
-/* Puts a port's next response into the ring that it was before the call, and checks the call's notify. */
-static inline void expect_response(host *h, uint32_t port, const started *request, uint64_t status, uint64_t notify) {
+/* Puts a port's next response into the ring that it was before the call. */
+static inline void expect_response(host *h, uint32_t port, const started *request, uint64_t status) {
     const layout *l = layout_of(h, port);
     uint8_t *page = h->before[RINGS] + KH_RING_BYTES * port;
     uint8_t *slot = page + slot_offset(h->books[port].ring, h->books[port].answered++);
-    CHECK_EQ(notify, get(page + KH_RSP_EVENT, 4) == h->books[port].answered);
     count_status(&h->counts[port], status);
     put(slot, 8, request->id);
     put(slot + 8, 2, request->operation);
     put(slot + 10, 2, 0 - status);
     put(slot + 12, l->response - 12, 0);
     put(page + KH_RSP_PROD, 4, h->books[port].answered);
+}
+
+/* The notify of a call that gave so many responses: rsp_event is one of their indices (rules 6.5 and 6.20). */
+static inline void check_notify(const host *h, uint32_t port, uint32_t responses, uint64_t notify) {
+    uint32_t rsp_event = (uint32_t)get(h->before[RINGS] + KH_RING_BYTES * port + KH_RSP_EVENT, 4);
+    uint32_t behind = h->books[port].answered - rsp_event;
+    CHECK_EQ(notify, behind < responses);
 }
 
 static inline bool is_busy(const book *b, uint32_t tag) {
@@ -249,6 +272,11 @@ static inline bool is_busy(const book *b, uint32_t tag) {
 /* Whether it is what a started request was answered with. */
 static inline bool names_request(const book *b, uint32_t tag, uint32_t serial) {
     return tag < slots_in(b->ring) && is_busy(b, tag) && b->tags[tag].serial == serial;
+}
+
+/* The sign left out. */
+static inline uint64_t status_of_result(const started *request, int64_t result) {
+    return result == request->expected ? 0 : result == KH_RESULT_NOT_SUPPORTED ? 2 : 1;
 }
 
 static inline uint32_t lowest_free(const book *b) {
@@ -276,7 +304,8 @@ static inline void check_answered(host *h, uint32_t port, started request, const
     CHECK(reason >= KH_UNKNOWN_OPERATION && reason <= KH_UNALIGNED && reason != WITHDRAWN);
     CHECK_EQ(answer[KH_TURN_STATUS], reason <= KH_FEATURE_OFF ? 2 : 1);
     h->books[port].taken++;
-    expect_response(h, port, &request, answer[KH_TURN_STATUS], answer[KH_TURN_NOTIFY]);
+    expect_response(h, port, &request, answer[KH_TURN_STATUS]);
+    check_notify(h, port, 1, answer[KH_TURN_NOTIFY]);
 }
 
 /* Nothing is published that was not taken. */
@@ -344,11 +373,65 @@ static inline void check_completion(host *h, uint32_t port, uint32_t tag, uint32
     started *request = &b->tags[tag % KH_TAGS];
     CHECK(port < KH_PORTS && names_request(b, tag, serial));
     CHECK_EQ(answer[KH_DONE_PORT], port);
-    CHECK_EQ(answer[KH_DONE_STATUS], result == request->expected ? 0 : result == KH_RESULT_NOT_SUPPORTED ? 2 : 1);
+    CHECK_EQ(answer[KH_DONE_STATUS], status_of_result(request, result));
     for (unsigned word = KH_DONE_NOTIFY + 1; word < KH_DONE_WORDS; word++)
         CHECK_EQ(answer[word], 0);
     b->busy &= ~(UINT64_C(1) << tag % KH_TAGS);
-    expect_response(h, port % KH_PORTS, request, answer[KH_DONE_STATUS], answer[KH_DONE_NOTIFY]);
+    expect_response(h, port % KH_PORTS, request, answer[KH_DONE_STATUS]);
+    check_notify(h, port % KH_PORTS, 1, answer[KH_DONE_NOTIFY]);
+    check_same(h, RINGS);
+}
+
+/* ---- lists of completions */
+
+/* Whether all entries name started requests, and each another one. */
+static inline bool names_requests(const book *b, const uint64_t *entries, size_t count) {
+    uint64_t named = 0;
+    for (const uint64_t *entry = entries; entry < entries + KH_ENTRY_WORDS * count; entry += KH_ENTRY_WORDS) {
+        uint64_t tag = entry[KH_ENTRY_TAG], serial = entry[KH_ENTRY_SERIAL];
+        if (tag > UINT32_MAX || serial > UINT32_MAX || !names_request(b, (uint32_t)tag, (uint32_t)serial))
+            return false;
+        if ((named >> tag & 1) != 0)
+            return false;
+        named |= UINT64_C(1) << tag;
+    }
+    return true;
+}
+
+/* What a list is refused with, or 0. A closed port has no pages. */
+static inline uint32_t list_due(const host *h, uint32_t port, const uint64_t *entries, size_t entry_words) {
+    const book *b = &h->books[port % KH_PORTS];
+    if (h->bytes[RINGS] != KH_RINGS_BYTES || entry_words % KH_ENTRY_WORDS != 0)
+        return 1;
+    if (port >= KH_PORTS)
+        return 2;
+    if (b->ring.pages == 0)
+        return 4;
+    if (entry_words / KH_ENTRY_WORDS > 64)
+        return 7;
+    return names_requests(b, entries, entry_words / KH_ENTRY_WORDS) ? KH_OK : 6;
+}
+
+/* The answer of a list that was done, and the rings after it. */
+static inline void check_list(host *h, uint32_t port, const uint64_t *entries, size_t count) {
+    const uint64_t *answer = words(h, LISTED);
+    book *b = &h->books[port];
+    CHECK_EQ(answer[KH_MANY_PORT], port);
+    CHECK_EQ(answer[KH_MANY_COUNT], count);
+    CHECK_EQ(answer[KH_MANY_NOTIFY + 1], 0);
+    for (size_t i = 0; i < KH_ENTRIES; i++) {
+        const uint64_t *entry = entries + KH_ENTRY_WORDS * i;
+        const started *request;
+        if (i >= count) {
+            CHECK_EQ(answer[KH_MANY_STATUSES + i], 0);
+            continue;
+        }
+        request = &b->tags[entry[KH_ENTRY_TAG]];
+        CHECK_EQ(answer[KH_MANY_STATUSES + i], status_of_result(request, (int64_t)entry[KH_ENTRY_RESULT]));
+        b->busy &= ~(UINT64_C(1) << entry[KH_ENTRY_TAG]);
+        expect_response(h, port, request, answer[KH_MANY_STATUSES + i]);
+    }
+    check_notify(h, port, (uint32_t)count, answer[KH_MANY_NOTIFY]);
     check_same(h, RINGS);
 }
 
@@ -424,9 +507,36 @@ static inline uint32_t do_complete(host *h, uint32_t port, uint32_t tag, uint32_
     return number;
 }
 
+/* A list of completions; its words are lent as they are, and can't be written to. */
+static inline uint32_t do_complete_many(host *h, uint32_t port, const uint64_t *entries, size_t entry_words) {
+    size_t bytes = sizeof *entries * entry_words;
+    uint64_t *lent = bytes > 0 ? (uint64_t *)(void *)lend(bytes) : NULL;
+    uint32_t number, due = list_due(h, port, entries, entry_words);
+    if (bytes > 0) {
+        memcpy(lent, entries, bytes);
+        allow_writes((uint8_t *)lent, bytes, false);
+    }
+    memset(h->at[LISTED], 0xA5, h->bytes[LISTED]);
+    remember(h);
+    shut_pages(h, true);
+    number = kh_complete_many(memory_of(h), h->at[RINGS], h->bytes[RINGS], port, lent, entry_words, words(h, LISTED));
+    shut_pages(h, false);
+    CHECK_EQ(number, due);
+    check_kept(h, number, (entry_words > 0 ? 1 << MEMORY | 1 << RINGS : 0) | 1 << LISTED);
+    if (number == KH_OK && due == KH_OK)
+        check_list(h, port, entries, entry_words / KH_ENTRY_WORDS);
+    if (bytes > 0) {
+        CHECK(memcmp(lent, entries, bytes) == 0);
+        give_back((uint8_t *)lent, bytes);
+    }
+    hand_over(h, LISTED, number, port % KH_PORTS);
+    return number;
+}
+
 #define OPEN(h, port, sheet, bytes)            MADE_HERE(do_open(h, port, sheet, bytes))
 #define CLOSE(h, port)                         MADE_HERE(do_close(h, port))
 #define TURN(h)                                MADE_HERE(do_turn(h))
 #define COMPLETE(h, port, tag, serial, result) MADE_HERE(do_complete(h, port, tag, serial, result))
+#define COMPLETE_MANY(h, port, entries, count) MADE_HERE(do_complete_many(h, port, entries, count))
 
 #endif

@@ -4,9 +4,8 @@
  *
  * No expression below draws twice where C leaves the order open, so that a seed gives one list of calls.
  */
-#include "any.h"
+#include "lists.h"
 #include "port_words.h"
-#include "test.h"
 
 enum { CALLS = 150000, LAST_NUMBER = 15 };
 
@@ -14,7 +13,7 @@ static const uint64_t seed = UINT64_C(0x6B65726E656C6861);
 
 /* ---- which numbers came */
 
-enum call { CALL_OPEN, CALL_CLOSE, CALL_TURN, CALL_COMPLETE, CALL_COUNT };
+enum call { CALL_OPEN, CALL_CLOSE, CALL_TURN, CALL_COMPLETE, CALL_LIST, CALL_COUNT };
 
 static const struct {
     const char *name;
@@ -24,6 +23,7 @@ static const struct {
     {"close", 1 << 0 | 1 << 2 | 1 << 4 | 1 << 5},
     {"turn", 1 << 0 | 1 << 1},
     {"complete", 1 << 0 | 1 << 1 | 1 << 2 | 1 << 4 | 1 << 6},
+    {"list", 1 << 0 | 1 << 1 | 1 << 2 | 1 << 4 | 1 << 6 | 1 << 7},
 };
 
 static unsigned long came[CALL_COUNT][LAST_NUMBER + 1];
@@ -154,6 +154,29 @@ static void end_in_flight(void) {
     CHECK_EQ(most_in_flight[2], 64);
 }
 
+/* ---- how long the lists of completions were that were done, by the pages of the ring */
+
+static unsigned long lists_done[KH_RING_PAGES + 1][KH_ENTRIES + 1];
+
+static void note_list(const book *b, size_t count) {
+    lists_done[b->ring.pages][count % (KH_ENTRIES + 1)]++;
+}
+
+/* Empty ones, short ones, and whole rings. */
+static void end_lists(void) {
+    for (uint32_t pages = 1; pages <= KH_RING_PAGES; pages++) {
+        unsigned long all = 0;
+        for (uint32_t count = 0; count <= KH_ENTRIES; count++)
+            all += lists_done[pages][count];
+        for (uint32_t count = 0; count <= 8; count++)
+            CHECK(lists_done[pages][count] > 0);
+        CHECK(lists_done[pages][kh_slots(pages)] > 0);
+        if (placement != BEFORE_GUARD || running.failures > 0)
+            printf("     %u pages: %lu lists done, %lu empty, %lu of one, %lu of the whole ring\n", pages, all,
+                   lists_done[pages][0], lists_done[pages][1], lists_done[pages][kh_slots(pages)]);
+    }
+}
+
 /* ---- arguments */
 
 static uint32_t any_port(void) {
@@ -165,6 +188,14 @@ static int32_t any_result(const started *request) {
     if (one_in(2))
         return (int32_t)request->expected;
     return one_in(4) ? (int32_t)(uint32_t)any() : usual[below(COUNT_OF(usual))];
+}
+
+/* How many words of a list are lent: at times too many for any list, or not whole entries. */
+static size_t any_length(const list *l) {
+    size_t count = KH_ENTRY_WORDS * l->count;
+    if (one_in(24))
+        count = KH_ENTRY_WORDS * (KH_ENTRIES - 1 + below(4 * KH_ENTRIES));
+    return one_in(24) ? count + 1 + below(2) : count;
 }
 
 /* A sheet that ends with digits of any length, as its sectors. */
@@ -339,6 +370,31 @@ static void call_complete(host *h) {
         count_response(b->ring);
 }
 
+/* A port whose ring is full, or any. */
+static uint32_t full_port(const host *h) {
+    for (uint32_t port = 0; port < KH_PORTS; port++) {
+        const book *b = &h->books[port];
+        if (b->ring.pages > 0 && lowest_free(b) == slots_in(b->ring))
+            return port;
+    }
+    return any_port();
+}
+
+/* Some of the busy tags, or all, or none. */
+static void call_list(host *h) {
+    uint32_t port = full_port(h), most = one_in(3) ? KH_ENTRIES : below(20);
+    const book *b = &h->books[port % KH_PORTS];
+    list l = any_list(h, port, most);
+    size_t length = any_length(&l);
+    uint32_t number = COMPLETE_MANY(h, port, l.words, length);
+    count(h, CALL_LIST, number);
+    if (number != KH_OK)
+        return;
+    note_list(b, length / KH_ENTRY_WORDS);
+    for (size_t i = 0; i < length / KH_ENTRY_WORDS; i++)
+        count_response(b->ring);
+}
+
 /* Where completions are slow, the rings fill up. */
 static void call_any(host *h, bool slow) {
     uint32_t draw = below(100);
@@ -348,8 +404,10 @@ static void call_any(host *h, bool slow) {
         count(h, CALL_CLOSE, CLOSE(h, any_port()));
     else if (draw < (slow ? 95 : 60))
         call_turn(h);
-    else
+    else if (draw < (slow ? 99 : 90))
         call_complete(h);
+    else
+        call_list(h);
 }
 
 static void any_calls_from_the_empty_backend(host *h) {
@@ -357,6 +415,7 @@ static void any_calls_from_the_empty_backend(host *h) {
     begin_sizes();
     memset(discards, 0, sizeof discards);
     memset(most_in_flight, 0, sizeof most_in_flight);
+    memset(lists_done, 0, sizeof lists_done);
     for (int i = 0; i < CALLS; i++) {
         bool wrong, slow = i / 4096 % 4 == 1;
         guest_writes(h, below(KH_PORTS), slow);
@@ -370,6 +429,7 @@ static void any_calls_from_the_empty_backend(host *h) {
     end_sizes();
     end_marks();
     end_in_flight();
+    end_lists();
 }
 
 /* ---- calls on memory of any content, which is some backend too; no books can be kept of it */
@@ -385,13 +445,17 @@ static shape ring_by_words(const host *h, uint32_t port) {
     return (shape){kept[LAYOUT] != 0 ? KH_BITS32 : KH_BITS64, (kept[PAGES] & SECOND_PAGE) != 0 ? 2 : 1};
 }
 
-static void take_over_response(const host *h, uint64_t port) {
+/* So many of them. */
+static void take_over_responses(const host *h, uint64_t port, uint64_t responses) {
     CHECK(port < KH_PORTS);
     uint32_t k = (uint32_t)port % KH_PORTS;
     shape ring = ring_by_words(h, k);
-    take_over(h, k, slot_offset(ring, index_at(h, k, KH_RSP_PROD) - 1), layouts[ring.abi].response);
-    take_over(h, k, KH_RSP_PROD, 4);
-    count_response(ring);
+    for (uint32_t i = 1; i <= responses; i++) {
+        take_over(h, k, slot_offset(ring, index_at(h, k, KH_RSP_PROD) - i), layouts[ring.abi].response);
+        count_response(ring);
+    }
+    if (responses > 0)
+        take_over(h, k, KH_RSP_PROD, 4);
 }
 
 static void turn_on_any_memory(host *h) {
@@ -403,7 +467,7 @@ static void turn_on_any_memory(host *h) {
         for (uint32_t port = 0; port < KH_PORTS; port++)
             take_over(h, port, KH_REQ_EVENT, 4);
     if (number == KH_OK && answer[KH_TURN_KIND] == KH_ANSWERED)
-        take_over_response(h, answer[KH_TURN_PORT]);
+        take_over_responses(h, answer[KH_TURN_PORT], 1);
     check_kept(h, number, 1 << MEMORY | 1 << TURNED);
 }
 
@@ -416,9 +480,47 @@ static void complete_on_any_memory(host *h) {
     count(h, CALL_COMPLETE, number);
     if (number == KH_OK) {
         CHECK(port < KH_PORTS && tag < slots_in(ring_by_words(h, port % KH_PORTS)));
-        take_over_response(h, words(h, COMPLETED)[KH_DONE_PORT]);
+        take_over_responses(h, words(h, COMPLETED)[KH_DONE_PORT], 1);
     }
     check_kept(h, number, 1 << MEMORY | 1 << COMPLETED);
+}
+
+/* Tags that rise, as a rule, and serials that are small, as many of those in memory are. */
+static list list_of_any_words(void) {
+    uint32_t most = one_in(8) ? KH_ENTRIES : below(4), tag = below(8);
+    list l = {.count = 0};
+    while (l.count < most) {
+        uint32_t serial = below(4);
+        add_entry(&l, tag, serial, (int32_t)below(3) - 1);
+        tag += one_in(32) ? 0 : 1 + below(24);
+    }
+    if (l.count > 0 && one_in(6))
+        spoil_entry(&l, entry_of(&l, below((uint32_t)l.count)));
+    return l;
+}
+
+static void list_on_any_memory(host *h) {
+    uint32_t port = any_port();
+    list l = list_of_any_words();
+    size_t length = any_length(&l), bytes = sizeof *l.words * length;
+    uint64_t *lent = (uint64_t *)(void *)lend(bytes);
+    bool is_judged = h->bytes[RINGS] == KH_RINGS_BYTES && length == KH_ENTRY_WORDS * l.count && port < KH_PORTS &&
+                     words_of_port(memory_of(h), port % KH_PORTS)[0] != 0;
+    memcpy(lent, l.words, bytes);
+    if (is_judged)
+        complete_one_by_one(h, port, &l);
+    uint32_t number =
+        kh_complete_many(memory_of(h), h->at[RINGS], h->bytes[RINGS], port, lent, length, words(h, LISTED));
+    count(h, CALL_LIST, number);
+    if (is_judged)
+        check_as_one_by_one(h, number);
+    if (number == KH_OK) {
+        CHECK_EQ(words(h, LISTED)[KH_MANY_COUNT], length / KH_ENTRY_WORDS);
+        take_over_responses(h, words(h, LISTED)[KH_MANY_PORT], length / KH_ENTRY_WORDS);
+    }
+    check_kept(h, number, (length > 0 ? 1 << MEMORY : 0) | 1 << LISTED);
+    CHECK(memcmp(lent, l.words, bytes) == 0);
+    give_back((uint8_t *)lent, bytes);
 }
 
 static void open_on_any_memory(host *h) {
@@ -445,8 +547,8 @@ static void scribble_memory(const host *h) {
 }
 
 static void any_calls_on_any_memory(host *h) {
-    static void (*const choices[])(host *) = {open_on_any_memory, close_on_any_memory, turn_on_any_memory,
-                                              turn_on_any_memory, complete_on_any_memory};
+    static void (*const choices[])(host *) = {open_on_any_memory, close_on_any_memory,    turn_on_any_memory,
+                                              turn_on_any_memory, complete_on_any_memory, list_on_any_memory};
     begin_counts();
     for (int i = 0; i < CALLS; i++) {
         bool wrong;

@@ -1,12 +1,12 @@
 /*
  * The listing of docs/HOST.md, run: over live pages it leaves what a host leaves that lends the rings themselves, and
  * answers alike, whatever guests of both layouts publish in rings of one page and of two. The pages of a ring are no
- * neighbours, nor in order. One thread; the order of two is for host/tests/wakeup.rs.
+ * neighbours, nor in order. One thread, in which a guest may ask for an event at the last moment of a list of
+ * completions; the order of two is for host/tests/wakeup.rs.
  */
-#include "rules.c" /* the listing */
+#include "fences.h"
 
-#include <stdio.h>
-#include <stdlib.h>
+#include "rules.c" /* the listing */
 
 enum { STEPS = 400000, PLANS = KH_PORTS * KH_TAGS, LIVE_PAGES = KH_PORTS * KH_RING_PAGES };
 
@@ -20,10 +20,12 @@ static struct {
     size_t slot_bytes;
 } guests[KH_PORTS];
 
-static kh_turned plans[PLANS]; /* in flight, or completed before */
+static kh_turned plans[PLANS];       /* in flight, or completed before */
+static bool busy[KH_PORTS][KH_TAGS]; /* in flight */
 static uint32_t published[KH_PORTS];
 static unsigned long came[4], opened[KH_RING_PAGES][2], reshaped, refused, drawn_back;
-static uint32_t most[KH_RING_PAGES];                 /* in flight on a port, by its pages */
+static unsigned long lists[3], lists_notified, lists_refused, asked_late; /* those done, of none, of one and of more */
+static uint32_t most[KH_RING_PAGES];                                      /* in flight on a port, by its pages */
 static kh_meter counted[KH_PORTS], billed[KH_PORTS]; /* by this file; by the listing, taken from time to time */
 
 static uint64_t state = UINT64_C(0x6B65726E656C6861);
@@ -139,8 +141,10 @@ static void turn_both(void) {
     note_in_flight(here.port);
     if (here.kind == KH_ANSWERED)
         count_status(here.port, here.status);
-    if (here.kind == KH_STARTED)
+    if (here.kind == KH_STARTED) {
         plans[KH_TAGS * here.port + here.plan.tag] = here;
+        busy[here.port][here.plan.tag] = true;
+    }
 }
 
 static void complete_both(const kh_turned *turned, int32_t result) {
@@ -151,8 +155,75 @@ static void complete_both(const kh_turned *turned, int32_t result) {
     uint32_t there = kh_complete(&lender, (uint8_t *)lent, sizeof lent, turned->port, tag, serial, result, answer);
     same("complete", here == there && notify == kh_read_completion(answer).notify);
     refused += here != KH_OK;
-    if (here == KH_OK)
+    if (here == KH_OK) {
         count_status(turned->port, kh_read_completion(answer).status);
+        busy[turned->port][tag] = false;
+    }
+}
+
+/* Plans of a port that are in flight; in a list that may be bad some that are not, or one twice. */
+static uint32_t write_list(uint32_t port, uint64_t *entries) {
+    uint32_t longest = below(below(4) == 0 ? KH_TAGS + 1 : 8), tag = below(KH_TAGS);
+    bool bad = below(8) == 0;
+    uint32_t count = 0;
+    for (uint32_t i = 0; i < KH_TAGS && count < longest; i++, tag = (tag + 1) % KH_TAGS) {
+        const kh_turned *turned = &plans[KH_TAGS * port + tag];
+        if (!busy[port][tag] && !(bad && below(16) == 0))
+            continue;
+        kh_write_entry(entries, count++, tag, turned->plan.serial, (int32_t)below(3));
+        tag -= bad && below(16) == 0;
+    }
+    return count;
+}
+
+/* The list that is being completed, and what the guest asks for when its rsp_prod is out. */
+static struct {
+    uint32_t port, first, count;
+    uint32_t rsp_event;
+} now;
+
+/* All responses are out before rsp_prod is, and rsp_prod before the second look. An empty list comes to no fence. */
+static void meet_fence(memory_order order) {
+    struct ring *ring = &ports[now.port];
+    const uint32_t *share = rings + SHARE_WORDS * now.port;
+    uint32_t rsp_prod = le32toh(*live_word(ring, WORD(KH_RSP_PROD)));
+    bool holds = now.count > 0 && rsp_prod == now.first + (order == memory_order_release ? 0 : now.count);
+    for (uint32_t i = 0; i < now.count; i++)
+        for (size_t at = slot_word(ring, now.first + i), end = at + WORD(ring->response_bytes); at < end; at++)
+            holds = holds && *live_word(ring, at) == share[at];
+    if (order == memory_order_seq_cst)
+        guest_writes(now.port, WORD(KH_RSP_EVENT), now.rsp_event);
+    if (!holds) {
+        printf("tests/c/live.c: responses and rsp_prod are out of order\n");
+        exit(1);
+    }
+}
+
+static void complete_many_both(uint32_t port) {
+    uint64_t entries[KH_ENTRY_WORDS * KH_ENTRIES], answer[KH_MANY_WORDS] = {0};
+    bool notify = false;
+    uint32_t count = write_list(port, entries), first = ports[port].rsp_prod;
+    uint32_t asked = le32toh(lent[SHARE_WORDS * port + WORD(KH_RSP_EVENT)]);
+    now.port = port, now.first = first, now.count = count, now.rsp_event = first + below(count + 3);
+    at_fence = below(2) == 0 ? meet_fence : NULL;
+    uint32_t here = host_complete_many(port, entries, count, &notify);
+    at_fence = NULL;
+    uint32_t there =
+        kh_complete_many(&lender, (uint8_t *)lent, sizeof lent, port, entries, KH_ENTRY_WORDS * count, answer);
+    kh_completed_many completed = kh_read_many(answer);
+    bool early = here == KH_OK && first + count - asked < count;
+    same("complete_many", here == there && notify == (completed.notify || early));
+    asked_late += completed.notify && !early;
+    lists_refused += here != KH_OK;
+    if (here != KH_OK)
+        return;
+    same("list", completed.count == count && completed.port == port);
+    lists[count == 0 ? 0 : count == 1 ? 1 : 2]++;
+    lists_notified += notify && count > 1;
+    for (uint32_t i = 0; i < count; i++) {
+        count_status(port, completed.statuses[i]);
+        busy[port][entries[KH_ENTRY_WORDS * i + KH_ENTRY_TAG]] = false;
+    }
 }
 
 /* A guest sets its ring up. The second half of its share, which a ring of one page has no part in, is rubbish. */
@@ -213,6 +284,9 @@ static void step(uint32_t port) {
     case 3:
         bill(port);
         break;
+    case 4:
+        complete_many_both(port);
+        break;
     default:
         if (below(3) == 0)
             guest_step(port);
@@ -232,14 +306,19 @@ int main(void) {
     for (uint32_t port = 0; port < KH_PORTS; port++)
         bill(port);
     same("meters", memcmp(billed, counted, sizeof billed) == 0);
-    printf("     %d steps: idle %lu, started %lu, answered %lu, overrun %lu; opened with one page 64-bit %lu, 32-bit "
-           "%lu, with two %lu, %lu, in another shape than before %lu; most in flight %u and %u; completions refused "
-           "%lu, drawn back %lu\n",
-           STEPS, came[KH_IDLE], came[KH_STARTED], came[KH_ANSWERED], came[KH_OVERRUN], opened[0][0], opened[0][1],
-           opened[1][0], opened[1][1], reshaped, most[0], most[1], refused, drawn_back);
+    printf(
+        "     %d steps: idle %lu, started %lu, answered %lu, overrun %lu; opened with one page 64-bit %lu, 32-bit "
+        "%lu, with two %lu, %lu, in another shape than before %lu; most in flight %u and %u; completions refused "
+        "%lu, drawn back %lu; lists of none %lu, of one %lu, of more %lu and %lu of these notified, refused %lu, asked "
+        "for at the last moment %lu\n",
+        STEPS, came[KH_IDLE], came[KH_STARTED], came[KH_ANSWERED], came[KH_OVERRUN], opened[0][0], opened[0][1],
+        opened[1][0], opened[1][1], reshaped, most[0], most[1], refused, drawn_back, lists[0], lists[1], lists[2],
+        lists_notified, lists_refused, asked_late);
     bool all = came[KH_IDLE] && came[KH_STARTED] && came[KH_ANSWERED] && came[KH_OVERRUN];
     bool each = reshaped > KH_PORTS && most[0] == 32 && most[1] > 32;
+    bool listed =
+        lists[0] && lists[1] && lists[2] && lists_notified && lists_notified < lists[2] && lists_refused && asked_late;
     for (int i = 0; i < 4; i++)
         each = each && opened[i / 2][i % 2] > KH_PORTS;
-    return all && each && refused && drawn_back ? 0 : 1;
+    return all && each && listed && refused && drawn_back ? 0 : 1;
 }

@@ -3,20 +3,7 @@
  * and answers alike, with a backend on the other side and with one that writes anything. One thread, in which the other
  * side takes its steps at the listing's fences; every order of two threads is for host/tests/wakeup_guest.rs.
  */
-#include <endian.h>
-#include <stdatomic.h>
-#include <stdio.h>
-#include <stdlib.h>
-
-static void (*at_fence)(memory_order order);
-
-static void fence(memory_order order) {
-    if (at_fence != NULL)
-        at_fence(order);
-}
-
-#undef atomic_thread_fence
-#define atomic_thread_fence fence
+#include "fences.h"
 
 #include "image.c" /* the listings */
 

@@ -97,15 +97,18 @@ static bool take(uint32_t port, uint32_t *number) {
     return true;
 }
 
-static bool respond(uint32_t port, const response *given) {
+static void respond(uint32_t port, const response *given) {
     blkif_back_ring_t *back = &rings[port].back;
     blkif_response_t *slot = RING_GET_RESPONSE(back, back->rsp_prod_pvt++);
-    int notify;
     memset(slot, 0, sizeof *slot);
     slot->id = given->id;
     slot->operation = given->operation;
     slot->status = given->status;
-    RING_PUSH_RESPONSES_AND_CHECK_NOTIFY(back, notify);
+}
+
+static bool publish(uint32_t port) {
+    int notify;
+    RING_PUSH_RESPONSES_AND_CHECK_NOTIFY(&rings[port].back, notify);
     return notify;
 }
 
@@ -120,4 +123,4 @@ const halves as_i386 =
 #else
 const halves as_compiled =
 #endif
-    {open_front, put_request, push, collect, ask, outstanding, slots, open_back, take, respond, rest};
+    {open_front, put_request, push, collect, ask, outstanding, slots, open_back, take, respond, publish, rest};

@@ -29,7 +29,8 @@ typedef struct {
     /* The back end's. */
     void (*open_back)(uint32_t port, void *ring);
     bool (*take)(uint32_t port, uint32_t *number);         /* the next request; false: there is none */
-    bool (*respond)(uint32_t port, const response *given); /* true: notify the guest */
+    void (*respond)(uint32_t port, const response *given); /* not yet published */
+    bool (*publish)(uint32_t port);                        /* all responses until now; true: notify the guest */
     bool (*rest)(uint32_t port);                           /* asks to be notified; true: a request is here */
 } halves;
 

@@ -99,6 +99,35 @@ static void rule_15_04_completed(host *h) {
     }
 }
 
+/* Each entry by its own status, and no request as taken. */
+static void rule_15_04_listed(host *h) {
+    static const int32_t results[] = {8, -95, -5, 8, 7, 8, -95};
+    list l = {.count = 0};
+    BEGIN(h, USUAL_NODES);
+    START(h, 0, 20);
+    for (uint32_t tag = 0; tag < COUNT_OF(results); tag++)
+        add_entry(&l, tag, tag, results[tag]);
+    CHECK_EQ(COMPLETE_LIST(h, 0, &l), KH_OK);
+    check_meter(h, 0, 20, 3, 2, 2);
+    CHECK_EQ(COMPLETE_MANY(h, 0, NULL, 0), KH_OK);
+    check_meter(h, 0, 20, 3, 2, 2);
+    for (l.count = 0; l.count < 13;)
+        add_started(&l, h, 0, (uint32_t)l.count + 7);
+    CHECK_EQ(COMPLETE_LIST(h, 0, &l), KH_OK);
+    check_meter(h, 0, 20, 16, 2, 2);
+}
+
+static void rule_15_04_full_list(host *h) {
+    uint32_t slots = slots_in(h->ring);
+    list l = {.count = 0};
+    BEGIN(h, USUAL_NODES);
+    START(h, 0, slots);
+    while (l.count < slots)
+        add_entry(&l, (uint32_t)l.count, (uint32_t)l.count, l.count < 3 ? -95 : 8);
+    CHECK_EQ(COMPLETE_LIST(h, 0, &l), KH_OK);
+    check_meter(h, 0, slots, slots - 3, 0, 3);
+}
+
 static void rule_15_04_idle(host *h) {
     CHECK_EQ(SERVE(h, 0), KH_IDLE); /* no port open */
     BEGIN(h, USUAL_NODES);
@@ -180,6 +209,25 @@ static void rule_15_04_refused_completion(host *h) {
     check_meter(h, 0, 4, 2, 1, 1);
 }
 
+/* The same of lists: what one that was done left in the words is not counted again. */
+static void rule_15_04_refused_list(host *h) {
+    list l = {.count = 0};
+    BEGIN(h, USUAL_NODES);
+    START(h, 0, 4);
+    for (uint32_t tag = 0; tag < 3; tag++)
+        add_entry(&l, tag, tag, tag == 1 ? -5 : 8);
+    CHECK_EQ(COMPLETE_LIST(h, 0, &l), KH_OK);
+    for (uint32_t i = 0; i < 5; i++) {
+        static const uint32_t ports[] = {0, 8, 1, 0, 0}, numbers[] = {1, 2, 4, 7, 6};
+        static const size_t counts[] = {8, 9, 9, KH_ENTRY_WORDS * 65, 9};
+        uint32_t number = kh_complete_many(memory_of(h), h->at[RINGS], KH_RINGS_BYTES, ports[i], l.words, counts[i],
+                                           words(h, LISTED));
+        CHECK_EQ(number, numbers[i]);
+        hand_to_each(h, LISTED, number);
+    }
+    check_meter(h, 0, 4, 2, 1, 0);
+}
+
 /* ---- numbers at the top */
 
 /* Each way to be answered, once: 5 taken, 1 okay, 2 error, 2 not supported. */
@@ -205,6 +253,23 @@ static void raise_from(host *h, unsigned high, uint64_t below_top) {
     set_meter(h, 0, from.named);
     answer_in_all_ways(h);
     check_meter(h, 0, due.named.taken, due.named.okay, due.named.error, due.named.not_supported);
+}
+
+/* A list passes the top with one of its entries and not with another. */
+static void rule_15_02_lists_stop_at_the_top(host *h) {
+    static const int32_t results[] = {8, -5, -95, 8, -5, 8};
+    for (uint64_t below_top = 0; below_top < 5; below_top++) {
+        uint64_t from = UINT64_MAX - below_top;
+        list l = {.count = 0};
+        BEGIN(h, USUAL_NODES);
+        START(h, 0, COUNT_OF(results));
+        set_meter(h, 0, (kh_meter){7, from, from, from});
+        for (uint32_t tag = 0; tag < COUNT_OF(results); tag++)
+            add_entry(&l, tag, tag, results[tag]);
+        CHECK_EQ(COMPLETE_LIST(h, 0, &l), KH_OK);
+        check_meter(h, 0, 7, below_top < 3 ? UINT64_MAX : from + 3, below_top < 2 ? UINT64_MAX : from + 2,
+                    below_top < 1 ? UINT64_MAX : from + 1);
+    }
 }
 
 static void rule_15_02_each_number_stops_at_the_top_by_itself(host *h) {
@@ -337,13 +402,16 @@ static record any_record(void) {
     return any_of;
 }
 
-/* Any words in both answers, but for these in the places that count. */
+/* Any words in all answers, but for these in the places that count. The list has one entry. */
 static void put_words(const host *h, uint64_t kind, uint64_t status) {
     fill(h->at[TURNED], h->bytes[TURNED]);
     fill(h->at[COMPLETED], h->bytes[COMPLETED]);
+    fill(h->at[LISTED], h->bytes[LISTED]);
     words(h, TURNED)[KH_TURN_KIND] = kind;
     words(h, TURNED)[KH_TURN_STATUS] = status;
     words(h, COMPLETED)[KH_DONE_STATUS] = status;
+    words(h, LISTED)[KH_MANY_COUNT] = 1;
+    words(h, LISTED)[KH_MANY_STATUSES] = status;
 }
 
 static void check_raised(const host *h, enum area area, uint32_t returned, record from, record due) {
@@ -385,8 +453,65 @@ static void rule_15_11_any_words_of_a_completion(host *h) {
     }
 }
 
+/* A number of entries, and for how many of them it counts. */
+static const struct {
+    uint64_t word;
+    unsigned entries;
+} numbers_of_entries[] = {
+    {0, 0},
+    {1, 1},
+    {2, 2},
+    {3, 3},
+    {31, 31},
+    {63, 63},
+    {64, 64},
+    {65, 64},
+    {66, 64},
+    {68, 64},
+    {128, 64},
+    {255, 64},
+    {256, 64},
+    {257, 64},
+    {UINT64_C(1) << 32, 64},
+    {(UINT64_C(1) << 32) + 1, 64},
+    {(UINT64_C(1) << 63) + 5, 64},
+    {UINT64_MAX, 64},
+};
+
+static void rule_15_12_any_words_of_a_list(host *h) {
+    state = 5;
+    for (size_t i = 0; i < 4 * TIMES * COUNT_OF(numbers_of_entries); i++) {
+        size_t line = i % COUNT_OF(numbers_of_entries);
+        record from = any_record(), due = from;
+        put_words(h, any(), any());
+        words(h, LISTED)[KH_MANY_COUNT] = numbers_of_entries[line].word;
+        for (unsigned entry = 0; entry < KH_ENTRIES; entry++) {
+            size_t status = one_in(2) ? below(3) : below(COUNT_OF(statuses));
+            words(h, LISTED)[KH_MANY_STATUSES + entry] = statuses[status].word;
+            if (entry < numbers_of_entries[line].entries)
+                due = with_raised(due, false, statuses[status].number);
+        }
+        check_raised(h, LISTED, KH_OK, from, due);
+    }
+}
+
+/* The status of one entry counts as it stands, at each place. */
+static void rule_15_12_every_place_of_a_list(host *h) {
+    state = 6;
+    for (size_t i = 0; i < KH_ENTRIES * COUNT_OF(statuses); i++) {
+        size_t place = i / COUNT_OF(statuses), status = i % COUNT_OF(statuses);
+        record from = any_record();
+        put_words(h, any(), any());
+        words(h, LISTED)[KH_MANY_COUNT] = place + 1;
+        for (size_t entry = 0; entry < KH_ENTRIES; entry++)
+            words(h, LISTED)[KH_MANY_STATUSES + entry] = entry <= place ? 3 : 0;
+        words(h, LISTED)[KH_MANY_STATUSES + place] = statuses[status].word;
+        check_raised(h, LISTED, KH_OK, from, with_raised(from, false, statuses[status].number));
+    }
+}
+
 static void rule_15_10_any_number_returned(host *h) {
-    static const uint32_t numbers[] = {1, 2, 6, 255, UINT32_C(1) << 31, UINT32_MAX};
+    static const uint32_t numbers[] = {1, 2, 6, 7, 255, 256, UINT32_C(1) << 31, UINT32_MAX};
     state = 3;
     for (size_t i = 0; i < COUNT_OF(numbers) * COUNT_OF(kinds) * COUNT_OF(statuses); i++) {
         uint32_t returned = numbers[i % COUNT_OF(numbers)];
@@ -394,6 +519,7 @@ static void rule_15_10_any_number_returned(host *h) {
         put_words(h, kinds[i / COUNT_OF(numbers) % COUNT_OF(kinds)].word, statuses[i % COUNT_OF(statuses)].word);
         check_raised(h, TURNED, returned, from, from);
         check_raised(h, COMPLETED, returned, from, from);
+        check_raised(h, LISTED, returned, from, from);
     }
 }
 
@@ -408,6 +534,7 @@ static void rule_15_11_nothing_else_is_written(host *h) {
         put_words(h, 1 + below(2), below(3));
         raise_meter(h, TURNED, (kh_meter *)(void *)(page + at), KH_OK);
         raise_meter(h, COMPLETED, (kh_meter *)(void *)(page + at), KH_OK);
+        raise_meter(h, LISTED, (kh_meter *)(void *)(page + at), KH_OK);
         CHECK(memcmp(page + at, before + at, sizeof(kh_meter)) != 0);
         CHECK(memcmp(page, before, at) == 0 && memcmp(page + after, before + after, bytes - after) == 0);
     }
@@ -418,15 +545,19 @@ static void rule_15_11_nothing_else_is_written(host *h) {
 int main(void) {
     static const test calls[] = {
         TEST(rule_15_02_each_number_stops_at_the_top_by_itself),
+        TEST(rule_15_02_lists_stop_at_the_top),
         TEST(rule_15_03_ports_apart),
         TEST(rule_15_04_started),
         TEST(rule_15_04_secure_flag_ignored),
         TEST(rule_15_04_answered),
         TEST(rule_15_04_completed),
+        TEST(rule_15_04_listed),
+        TEST(rule_15_04_full_list),
         TEST(rule_15_04_idle),
         TEST(rule_15_04_overrun),
         TEST(rule_15_04_refused_turn),
         TEST(rule_15_04_refused_completion),
+        TEST(rule_15_04_refused_list),
         TEST(rule_15_05_zeroed_by_a_store),
         TEST(rule_15_07_counts_on_over_openings),
         TEST(rule_15_07_broken_port),
@@ -434,10 +565,9 @@ int main(void) {
         TEST(rule_15_09_begun_elsewhere),
     };
     static const test any_words[] = {
-        TEST(rule_15_10_any_number_returned),
-        TEST(rule_15_11_any_words_of_a_turn),
-        TEST(rule_15_11_any_words_of_a_completion),
-        TEST(rule_15_11_nothing_else_is_written),
+        TEST(rule_15_10_any_number_returned),       TEST(rule_15_11_any_words_of_a_turn),
+        TEST(rule_15_11_any_words_of_a_completion), TEST(rule_15_12_any_words_of_a_list),
+        TEST(rule_15_12_every_place_of_a_list),     TEST(rule_15_11_nothing_else_is_written),
     };
     int failed = run_in_every_shape(calls, COUNT_OF(calls));
     return run_tests(any_words, COUNT_OF(any_words)) | failed;

@@ -1,4 +1,5 @@
-/* One test or more for each refusal number from 1 to 6, on both sides of its line, for rings of every shape. */
+/* One test or more for each refusal number from 1 to 6, on both sides of its line, for rings of every shape. Those of
+ * lists of completions are in lists.c. */
 #include "test.h"
 
 #include "port_words.h"

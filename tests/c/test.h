@@ -126,6 +126,36 @@ static inline uint32_t do_finish(host *h) {
 
 #define FINISH(h) MADE_HERE(do_finish(h))
 
+/* ---- lists of completions */
+
+/* With room for more entries than a list may have. */
+typedef struct {
+    size_t count;
+    uint64_t words[KH_ENTRY_WORDS * 5 * KH_ENTRIES];
+} list;
+
+static inline uint64_t *entry_of(list *l, size_t i) {
+    return l->words + KH_ENTRY_WORDS * i;
+}
+
+static inline void add_entry(list *l, uint32_t tag, uint32_t serial, int32_t result) {
+    kh_write_entry(l->words, l->count++, tag, serial, result);
+}
+
+/* An entry for a busy tag, as the host expects it. */
+static inline void add_started(list *l, const host *h, uint32_t port, uint32_t tag) {
+    const started *request = &h->books[port].tags[tag];
+    add_entry(l, tag, request->serial, (int32_t)request->expected);
+}
+
+static inline uint32_t do_complete_list(host *h, uint32_t port, const list *l) {
+    return do_complete_many(h, port, l->words, KH_ENTRY_WORDS * l->count);
+}
+
+#define COMPLETE_LIST(h, port, l) MADE_HERE(do_complete_list(h, port, l))
+
+/* ---- what tests begin with */
+
 /* A request on port 0, served, and completed where it starts: the reason, or 0. The turn's answer is left to look at.
  */
 static inline uint32_t do_judge(host *h, request r) {

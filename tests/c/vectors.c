@@ -428,6 +428,45 @@ static bool run_place(host *h, const char *given, text *came) {
     return true;
 }
 
+static void say_list(const host *h, text *came) {
+    kh_completed_many completed = kh_read_many(words(h, LISTED));
+    say(came, "done");
+    for (uint32_t i = 0; i < completed.count && i < KH_ENTRIES; i++)
+        say(came, " %" PRId32, completed.statuses[i]);
+    say(came, "%s", completed.notify ? " notify" : "");
+}
+
+/* PAGES FIRST STARTED RSP_EVENT | TAG SERIAL RESULT .. = what is due. On port 5. */
+static bool run_list(host *h, const char *given, text *came) {
+    enum { PORT = 5 };
+    uint64_t n[4];
+    list l = {.count = 0};
+    uint32_t number;
+    given = read_some(given, n, COUNT_OF(n));
+    for (; given != NULL && strncmp(given, " |", 2) == 0; l.count++)
+        given = read_some(given + 2, entry_of(&l, l.count), KH_ENTRY_WORDS);
+    if (given == NULL || *given != '\0')
+        return false;
+    open_as(h, PORT, USUAL_NODES, &layouts[h->ring.abi], (uint32_t)n[0]);
+    set_indices(h, PORT, (uint32_t)n[1], (uint32_t)n[1]);
+    set_index(h, PORT, KH_REQ_PROD, (uint32_t)n[1]);
+    for (uint64_t i = 0; i < n[2]; i++) {
+        post(h, PORT, transfer(KH_READ, 1, i));
+        CHECK_EQ(SERVE(h, PORT), KH_STARTED);
+    }
+    set_index(h, PORT, KH_RSP_EVENT, (uint32_t)n[3]);
+    number = COMPLETE_LIST(h, PORT, &l);
+    if (number == KH_OK)
+        say_list(h, came);
+    else
+        say(came, "refused %" PRIu32, number);
+    return true;
+}
+
+static void list_vectors(host *h) {
+    print_count(h, "     %u lists of completions\n", run_file(h, "tests/vectors/lists.txt", run_list));
+}
+
 /* EXPECTED RESULT = STATUS */
 static bool run_result(host *h, const char *given, text *came) {
     request r = transfer(KH_READ, 1, 0);
@@ -505,7 +544,7 @@ static void worked_cases(host *h) {
 int main(void) {
     static const test named[] = {TEST(sheet_vectors)};
     static const test any_shape[] = {TEST(request_vectors), TEST(segment_vectors), TEST(record_vectors),
-                                     TEST(worked_cases)};
+                                     TEST(list_vectors), TEST(worked_cases)};
     int failed = run_tests(named, COUNT_OF(named));
     return run_in_every_shape(any_shape, COUNT_OF(any_shape)) | failed;
 }

@@ -4,10 +4,11 @@
  */
 #include "wrong_23.h"
 #include "wrong_29.h"
+#include "wrong_lists.h"
 #include "wrong_rings.h"
 
 typedef void raise_meter(kh_meter *meter, uint32_t returned, const uint64_t *answer);
-raise_meter __real_kh_meter_turn, __real_kh_meter_completion, __wrap_kh_meter_turn, __wrap_kh_meter_completion;
+raise_meter __real_kh_meter_turn, __wrap_kh_meter_turn, __wrap_kh_meter_completion, __wrap_kh_meter_many;
 
 /* ---- a 32-bit port's slots taken for those of a 64-bit one */
 
@@ -290,6 +291,18 @@ uint32_t __wrap_kh_complete(kh_memory *memory, uint8_t *rings, size_t rings_byte
     return number;
 }
 
+uint32_t __wrap_kh_complete_many(kh_memory *memory, uint8_t *rings, size_t rings_bytes, uint32_t port,
+                                 const uint64_t *entries, size_t entry_words, uint64_t *answer) {
+    if (entry_words > 0 && entry_words <= KH_ENTRY_WORDS * KH_ENTRIES)
+        peek("before_entries", "after_entries", entries, sizeof *entries * entry_words);
+    peek("before_listed", "after_listed", answer, 8 * KH_MANY_WORDS);
+    if (wrong("stores_to_entries") && entry_words == KH_ENTRY_WORDS)
+        *(volatile uint64_t *)(uintptr_t)entries = entries[0];
+    if (are_lists_done_here())
+        return complete_list_here(memory, rings, rings_bytes, port, entries, entry_words, answer);
+    return __real_kh_complete_many(memory, rings, rings_bytes, port, entries, entry_words, answer);
+}
+
 /* ---- meters */
 
 /* What a meter takes an answer's kind for. */
@@ -360,4 +373,17 @@ void __wrap_kh_meter_completion(kh_meter *meter, uint32_t returned, const uint64
     if (wrong("refused_completion_counts"))
         returned = KH_OK;
     spoil_meter(__real_kh_meter_completion, meter, returned, answer, seen);
+}
+
+void __wrap_kh_meter_many(kh_meter *meter, uint32_t returned, const uint64_t *answer) {
+    volatile uint64_t *lent = (volatile uint64_t *)(uintptr_t)answer;
+    peek("before_metered_list", "after_metered_list", answer, 8 * KH_MANY_WORDS);
+    if (wrong("many_meter_stores_to_answer"))
+        lent[0] = lent[0];
+    if (wrong("many_meter_wraps"))
+        raise_over_top(__real_kh_meter_many, meter, returned, answer);
+    else if (are_lists_done_here())
+        meter_list_here(meter, returned, answer);
+    else
+        __real_kh_meter_many(meter, returned, answer);
 }

@@ -26,7 +26,7 @@ const struct shape shapes[SHAPES] = {
 struct bench bench;
 uint8_t *const rings = (uint8_t *)RINGS_AT;
 volatile uint64_t *const markers = (volatile uint64_t *)MARKERS_AT;
-const struct backend archive = {kh_turn, kh_complete, kh_guest_put, kh_guest_collect};
+const struct backend archive = {kh_turn, kh_complete, kh_complete_many, kh_guest_put, kh_guest_collect};
 
 _Noreturn void fail(const char *format, ...) {
     va_list words;
@@ -63,6 +63,10 @@ void call_backend(const struct backend *backend, const struct call *call, uint8_
     case CALL_COMPLETE:
         outcome->refusal = backend->complete(&bench.memory, lent, call->rings_bytes, call->port, call->tag,
                                              call->serial, call->result, outcome->answer);
+        break;
+    case CALL_LIST:
+        outcome->refusal = backend->complete_many(&bench.memory, lent, call->rings_bytes, call->port, bench.entries,
+                                                  call->entry_words, outcome->answer);
         break;
     case CALL_PUT:
         outcome->refusal = backend->put(&bench.guest, page, call->rings_bytes, bench.request, outcome->answer);

@@ -51,6 +51,7 @@ struct bench {
     uint8_t grants[KH_GRANTS_BYTES];
     struct book ports[PORTS];
     unsigned pointer;
+    uint64_t entries[KH_ENTRY_WORDS * (KH_ENTRIES + 1)]; /* of a list of completions */
     kh_guest guest;
     uint64_t request[KH_REQUEST_WORDS];
     struct ledger front;
@@ -65,27 +66,29 @@ extern uint8_t *const rings;
 extern volatile uint64_t *const markers;
 
 /* IDLE to OVERRUN are the numbers of a turn's answer. The last three are the guest's. */
-enum kind { IDLE, STARTED, ANSWERED, OVERRUN, COMPLETED, PUT, COLLECTED, NOTHING };
+enum kind { IDLE, STARTED, ANSWERED, OVERRUN, COMPLETED, LISTED, PUT, COLLECTED, NOTHING };
 
-enum callee { CALL_TURN, CALL_COMPLETE, CALL_PUT, CALL_COLLECT };
+enum callee { CALL_TURN, CALL_COMPLETE, CALL_LIST, CALL_PUT, CALL_COLLECT };
 
-/* The guest's calls are lent the page alone, and `rings_bytes` is its length. */
+/* A list's entries are those of the bench. The guest's calls are lent the page alone, and `rings_bytes` is its length.
+ */
 struct call {
     enum callee callee;
-    size_t rings_bytes, grants_bytes;
+    size_t rings_bytes, grants_bytes, entry_words;
     uint32_t port, tag, serial;
     int32_t result;
 };
 
 struct outcome {
     uint32_t refusal;
-    uint64_t answer[KH_TURN_WORDS];
+    uint64_t answer[KH_MANY_WORDS]; /* none is longer */
 };
 
 /* What is called: the archive, or a stand-in for it. */
 struct backend {
     uint32_t (*turn)(kh_memory *, uint8_t *, size_t, const uint8_t *, size_t, uint64_t *);
     uint32_t (*complete)(kh_memory *, uint8_t *, size_t, uint32_t, uint32_t, uint32_t, int32_t, uint64_t *);
+    uint32_t (*complete_many)(kh_memory *, uint8_t *, size_t, uint32_t, const uint64_t *, size_t, uint64_t *);
     uint32_t (*put)(kh_guest *, uint8_t *, size_t, const uint64_t *, uint64_t *);
     uint32_t (*collect)(kh_guest *, uint8_t *, size_t, uint64_t *);
 };

@@ -21,9 +21,12 @@ static void move_req_prod(unsigned port, changer *with) {
     }
 }
 
-static void move_others(unsigned port, changer *with) {
+/* rsp_event: before the responses that the call gives, among them and behind them. */
+static void move_others(unsigned port, unsigned responses, changer *with) {
     uint32_t answered = bench.ports[port].answered;
     for (uint32_t step = 0; step < 3; step++)
+        move_index("rsp_event", port, RSP_EVENT, answered + step, with);
+    for (uint32_t step = responses; step < responses + 2 && responses > 1; step++)
         move_index("rsp_event", port, RSP_EVENT, answered + step, with);
     move_index("rsp_prod", port, RSP_PROD, answered + 7, with);
     move_index("req_event", port, REQ_EVENT, answered + 7, with);
@@ -117,7 +120,7 @@ void each_change(const struct scenario *scenario, changer *with) {
         return;
     }
     move_req_prod(port, with);
-    move_others(port, with);
+    move_others(port, scenario->expect.entries, with);
     if (scenario->expect.kind == STARTED || scenario->expect.kind == ANSWERED) {
         replace_slot(port, with);
         change_byte_1(port, with);

@@ -5,7 +5,7 @@
 #include "bench.h"
 #include "trap.h"
 
-enum { MOST_STORED = 256 };
+enum { MOST_STORED = 2048 };
 
 struct stored {
     unsigned at;

@@ -3,6 +3,8 @@
 #include <stdio.h>
 #include <string.h>
 
+#include "lists.h"
+
 struct named {
     bool load[KH_RINGS_BYTES], store[KH_RINGS_BYTES];
 };
@@ -15,10 +17,14 @@ static void name_slot(struct named *named, unsigned port) {
     name_bytes(named->load, slot_at(port, bench.ports[port].taken), layout_of(port)->slot_bytes);
 }
 
-static void name_response(struct named *named, unsigned port) {
-    name_bytes(named->load, header_at(port, RSP_EVENT), INDEX_BYTES);
-    name_bytes(named->store, slot_at(port, bench.ports[port].answered), layout_of(port)->response_bytes);
+/* So many responses; for none, no byte. */
+static void name_responses(struct named *named, unsigned port, unsigned count) {
+    if (count == 0)
+        return;
+    for (uint32_t i = 0; i < count; i++)
+        name_bytes(named->store, slot_at(port, bench.ports[port].answered + i), layout_of(port)->response_bytes);
     name_bytes(named->store, header_at(port, RSP_PROD), INDEX_BYTES);
+    name_bytes(named->load, header_at(port, RSP_EVENT), INDEX_BYTES);
 }
 
 /* The turn looks at the ports from the pointer on, and no further than the one it serves. */
@@ -74,14 +80,16 @@ static void name_all(struct named *named, const struct expect *expect) {
     }
     if (expect->refusal)
         return;
-    if (expect->kind != COMPLETED)
+    if (expect->kind < COMPLETED)
         name_look(named, expect);
     if (expect->kind == IDLE)
         name_armed(named);
     if (expect->kind == STARTED || expect->kind == ANSWERED)
         name_slot(named, expect->port);
     if (expect->kind == ANSWERED || expect->kind == COMPLETED)
-        name_response(named, expect->port);
+        name_responses(named, expect->port, 1);
+    if (expect->kind == LISTED)
+        name_responses(named, expect->port, expect->entries);
 }
 
 const char *place_name(unsigned at) {
@@ -106,12 +114,16 @@ static unsigned fault(const struct scenario *scenario, const struct access *acce
     return 1;
 }
 
-/* An index is stored after what it publishes, and loaded before what it speaks of; a put asks whether to notify when
-   its own is out. */
-static const char *out_of_order(const struct access *access, const struct named *seen) {
+/* An index is stored whole and after what it publishes, and loaded before what it speaks of; whether to notify is asked
+   when the call's own is out. */
+static const char *out_of_order(const struct access *access, const struct named *named, const struct named *seen) {
     unsigned header = access->at / SHARE_BYTES * SHARE_BYTES;
     if (access->load && access->at == header + REQ_EVENT && !seen->store[header + REQ_PROD])
         return "loaded before req_prod is out";
+    if (access->load && access->at == header + RSP_EVENT && named->load[access->at] && !seen->store[header + RSP_PROD])
+        return "loaded before rsp_prod is out";
+    if (access->store && access->at - header < FIRST_SLOT && access->size != INDEX_BYTES)
+        return "stored in pieces";
     if (access->at - header < FIRST_SLOT)
         return NULL;
     if (access->store && (seen->store[header + REQ_PROD] || seen->store[header + RSP_PROD]))
@@ -124,7 +136,7 @@ static const char *out_of_order(const struct access *access, const struct named 
 /* The first byte of an access that is at fault settles it. */
 static unsigned judge_access(const struct scenario *scenario, const struct access *access, const struct named *named,
                              struct named *seen) {
-    const char *order = out_of_order(access, seen);
+    const char *order = out_of_order(access, named, seen);
     if (order)
         return fault(scenario, access, access->at, order);
     for (unsigned at = access->at; at < access->at + access->size; at++) {
@@ -157,6 +169,16 @@ static bool is_completed(const struct expect *expect, const uint64_t *answer) {
            answer[KH_DONE_NOTIFY] == expect->notify;
 }
 
+static bool is_listed(const struct expect *expect, const uint64_t *answer) {
+    if (answer[KH_MANY_PORT] != expect->port || answer[KH_MANY_COUNT] != expect->entries ||
+        answer[KH_MANY_NOTIFY] != expect->notify || answer[KH_MANY_NOTIFY + 1] != 0)
+        return false;
+    for (unsigned i = 0; i < KH_ENTRIES; i++)
+        if (answer[KH_MANY_STATUSES + i] != (i < expect->entries ? status_in_list(i) : 0))
+            return false;
+    return true;
+}
+
 static bool is_guest_answer(const struct expect *expect, const uint64_t *answer) {
     if (expect->kind == PUT)
         return answer[KH_PUT_NOTIFY] == expect->notify;
@@ -174,6 +196,8 @@ bool is_expected(const struct scenario *scenario, const struct outcome *outcome)
         return is_guest_answer(expect, answer);
     if (expect->kind == COMPLETED)
         return is_completed(expect, answer);
+    if (expect->kind == LISTED)
+        return is_listed(expect, answer);
     if (answer[KH_TURN_KIND] != expect->kind || answer[KH_TURN_PORT] != expect->port)
         return false;
     if (expect->kind == STARTED)

@@ -3,6 +3,7 @@
 #include <string.h>
 
 #include "guests.h"
+#include "lists.h"
 #include "place.h"
 
 static visitor *visit_next;
@@ -259,6 +260,8 @@ static void completions_refused(void) {
     refuse_completion("completion refused 4", 4, other);
 }
 
+static const struct taker taker = {is_wanted, hand_over};
+
 static void each_in_shape(void) {
     last_name = asked_name = NULL;
     fill_rings();
@@ -273,6 +276,7 @@ static void each_in_shape(void) {
     completions();
     turns_refused();
     completions_refused();
+    each_list(&taker, shape);
 }
 
 void each_scenario(visitor *visit, enum extent how_many) {
@@ -284,5 +288,5 @@ void each_scenario(visitor *visit, enum extent how_many) {
         each_in_shape();
     shape = shapes; /* the only one that the guest's half has */
     reset();
-    each_guest_call(&(struct taker){is_wanted, hand_over});
+    each_guest_call(&taker);
 }

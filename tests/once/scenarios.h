@@ -8,6 +8,7 @@ struct expect {
     uint32_t refusal;
     enum kind kind;
     uint32_t port, reason, status;
+    unsigned entries; /* of a list */
     bool secure, notify;
 };
 
@@ -21,6 +22,12 @@ struct scenario {
 };
 
 typedef void visitor(const struct scenario *scenario);
+
+/* Whom calls go to. Asked whether a name is wanted, before a call is made ready, which costs more than the call. */
+struct taker {
+    bool (*is_wanted)(const char *name);
+    void (*hand_over)(const char *name, const struct call *call, const struct expect *expect);
+};
 
 /* All of them; the samples; or of the samples with rings of two pages some, and all others. */
 enum extent { ALL, SAMPLES, FEW };

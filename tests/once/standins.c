@@ -16,6 +16,7 @@ static const char *const names[] = {
     [SECOND_LOOK] = "second-look",
     [BOUNDARIES_AGAIN] = "boundaries-again",
     [FLAG_AGAIN] = "flag-again",
+    [RSP_EVENT_FIRST] = "rsp-event-first",
     [RSP_EVENT_TWICE] = "rsp-event-twice",
     [RSP_EVENT_ALWAYS] = "rsp-event-always",
     [RSP_PROD_READ] = "rsp-prod-read",
@@ -30,6 +31,17 @@ static const char *const names[] = {
     [SLOT_BY_64] = "slot-by-64",
     [RESPONSE_BY_32] = "response-by-32",
     [RESPONSE_BY_64] = "response-by-64",
+    [LIST_PUBLISHED_EACH] = "list-published-each",
+    [LIST_PUBLISHED_BEFORE_THE_LAST] = "list-published-before-the-last",
+    [LIST_PUBLISHED_BY_BYTES] = "list-published-by-bytes",
+    [LIST_EVENT_EACH] = "list-event-each",
+    [LIST_EVENT_BY_BYTES] = "list-event-by-bytes",
+    [LIST_RESPONSES_TWICE] = "list-responses-twice",
+    [LIST_SLOT_READ] = "list-slot-read",
+    [LIST_EMPTY_PUBLISHES] = "list-empty-publishes",
+    [LIST_EMPTY_LOOKS] = "list-empty-looks",
+    [LIST_REFUSED_LOOKS] = "list-refused-looks",
+    [LIST_DONE_UNTIL_THE_BAD] = "list-done-until-the-bad",
     [PUT_BY_THE_PAGE] = "put-by-the-page",
     [REQ_EVENT_FIRST] = "req-event-first",
     [REQ_EVENT_TWICE] = "req-event-twice",
@@ -140,29 +152,54 @@ static bool waits(unsigned port) {
     return distance + (uint64_t)(book->taken - book->answered) <= slots_of(port);
 }
 
-static void take_rsp_event(unsigned port) {
+/* Whether rsp_event, as it was looked at, is the index of one of so many responses. */
+static bool is_event_passed(unsigned port, uint32_t responses) {
+    return load32(copy + header_at(port, RSP_PROD)) - load32(copy + header_at(port, RSP_EVENT)) < responses;
+}
+
+/* What a call that gives responses does before them, and must not. */
+static void begin_responses(unsigned port) {
+    if (fault == RSP_EVENT_FIRST)
+        take32(header_at(port, RSP_EVENT));
+}
+
+/* Looked at when rsp_prod is out. */
+static bool notifies(unsigned port, uint32_t responses) {
+    if (fault == RSP_EVENT_FIRST)
+        return is_event_passed(port, responses);
     take32(header_at(port, RSP_EVENT));
     if (fault == RSP_EVENT_TWICE)
         take32(header_at(port, RSP_EVENT));
     if (fault == RSP_PROD_READ)
         take32(header_at(port, RSP_PROD));
+    return is_event_passed(port, responses);
 }
 
-static void give_response(unsigned port) {
-    uint32_t index = bench.ports[port].answered;
+static void give_response(unsigned port, uint32_t index) {
     unsigned at = slot_seen(port, index, RESPONSE_BY_32, RESPONSE_BY_64), bytes = layout_of(port)->response_bytes;
     memmove(copy + at, copy + slot_at(port, index), bytes);
-    if (fault == RSP_PROD_FIRST)
-        give32(header_at(port, RSP_PROD));
     for (unsigned i = 0; i < (fault == RESPONSE_OF_16 ? KH_RESPONSE_BYTES : bytes); i += 4)
         give32(at + i);
     if (fault == BYTE_TOO_MANY)
         give_byte(at + bytes);
+}
+
+static void give_rsp_prod(unsigned port) {
     if (fault == SECOND_HALF_STORED && bench.ports[port].pages == 1)
         give32(SHARE_BYTES * port + PAGE_BYTES);
     give32(header_at(port, RSP_PROD));
     if (fault == RSP_PROD_STORED_TWICE)
         give32(header_at(port, RSP_PROD));
+}
+
+/* The one response of a turn or a completion: whether it notifies. */
+static bool respond(unsigned port) {
+    begin_responses(port);
+    if (fault == RSP_PROD_FIRST)
+        give32(header_at(port, RSP_PROD));
+    give_response(port, bench.ports[port].answered);
+    give_rsp_prod(port);
+    return notifies(port, 1);
 }
 
 /* The old worker's: judged by one look at the slot, done by another. */
@@ -174,9 +211,16 @@ static void look_again(unsigned port, uint64_t *answer) {
     }
 }
 
-/* One look at the segments for 26 to 28, and another for the boundaries of a disk of larger sectors. */
-static void look_at_boundaries(unsigned port, const uint64_t *answer) {
+/* One look at the segments for 26 to 28, which a call on copies tells, and another for the boundaries of a disk of
+   larger sectors. */
+static void look_at_boundaries(unsigned port, const kh_memory *memory, const uint8_t *grants) {
+    static kh_memory tried;
+    static uint8_t tried_rings[KH_RINGS_BYTES];
+    uint64_t answer[KH_TURN_WORDS];
     unsigned at = slot_at(port, bench.ports[port].taken) + layout_of(port)->segments;
+    tried = *memory;
+    memcpy(tried_rings, copy, sizeof tried_rings);
+    kh_turn(&tried, tried_rings, KH_RINGS_BYTES, grants, KH_GRANTS_BYTES, answer);
     for (unsigned i = 0; bench.ports[port].unit > 1 && i < answer[KH_TURN_EXTENT_COUNT]; i++)
         take32(at + 8 * i + 4);
 }
@@ -196,26 +240,15 @@ static void end_turn(unsigned port, uint64_t *answer) {
             if (bench.ports[k].state == OPEN)
                 give32(header_at(k, REQ_EVENT));
     if (answer[KH_TURN_KIND] == ANSWERED)
-        give_response(port);
+        answer[KH_TURN_NOTIFY] = respond(port);
     if (answer[KH_TURN_KIND] == STARTED && fault == SECOND_LOOK)
         look_again(port, answer);
     if (answer[KH_TURN_KIND] == STARTED && fault == FLAG_AGAIN)
         look_at_flag(port, answer);
     if (answer[KH_TURN_KIND] == STARTED && fault == RSP_EVENT_ALWAYS)
-        take_rsp_event(port);
+        take32(header_at(port, RSP_EVENT));
     if (answer[KH_TURN_KIND] == STARTED && fault == ARMED_ON_SERVICE)
         give32(header_at(port, REQ_EVENT));
-}
-
-/* A call on copies, to see whether it would give a response: only then may rsp_event be looked at. */
-static struct {
-    kh_memory memory;
-    uint8_t rings[KH_RINGS_BYTES];
-} trial;
-
-static void copy_for_trial(const kh_memory *memory) {
-    trial.memory = *memory;
-    memcpy(trial.rings, copy, sizeof trial.rings);
 }
 
 static uint32_t turn(kh_memory *memory, uint8_t *lent, size_t rings_bytes, const uint8_t *grants, size_t grants_bytes,
@@ -226,12 +259,8 @@ static uint32_t turn(kh_memory *memory, uint8_t *lent, size_t rings_bytes, const
     unsigned port = look();
     if (port != PORTS && waits(port))
         take_slot(port);
-    copy_for_trial(memory);
-    kh_turn(&trial.memory, trial.rings, rings_bytes, grants, grants_bytes, answer);
-    if (answer[KH_TURN_KIND] == STARTED && fault == BOUNDARIES_AGAIN)
-        look_at_boundaries(port, answer);
-    if (answer[KH_TURN_KIND] == ANSWERED)
-        take_rsp_event(port);
+    if (port != PORTS && fault == BOUNDARIES_AGAIN)
+        look_at_boundaries(port, memory, grants);
     uint32_t refusal = kh_turn(memory, copy, rings_bytes, grants, grants_bytes, answer);
     end_turn(port, answer);
     return refusal;
@@ -239,19 +268,80 @@ static uint32_t turn(kh_memory *memory, uint8_t *lent, size_t rings_bytes, const
 
 static uint32_t complete(kh_memory *memory, uint8_t *lent, size_t rings_bytes, uint32_t port, uint32_t tag,
                          uint32_t serial, int32_t result, uint64_t *answer) {
+    uint32_t refusal = kh_complete(memory, copy, rings_bytes, port, tag, serial, result, answer);
     live = lent;
-    copy_for_trial(memory);
-    uint32_t refusal = kh_complete(&trial.memory, trial.rings, rings_bytes, port, tag, serial, result, answer);
+    if (refusal == KH_OK)
+        answer[KH_DONE_NOTIFY] = respond(port);
+    return refusal;
+}
+
+/* ---- lists of completions */
+
+static void give_responses(unsigned port, unsigned count) {
+    uint32_t first = bench.ports[port].answered;
+    for (unsigned i = 0; i < count; i++) {
+        if (i + 1 == count && (fault == LIST_PUBLISHED_BEFORE_THE_LAST || fault == RSP_PROD_FIRST))
+            give32(header_at(port, RSP_PROD));
+        if (fault == LIST_SLOT_READ)
+            take32(slot_at(port, first + i));
+        give_response(port, first + i);
+        if (fault == LIST_PUBLISHED_EACH)
+            give32(header_at(port, RSP_PROD));
+        if (fault == LIST_RESPONSES_TWICE)
+            give_response(port, first + i);
+    }
+}
+
+static bool notifies_of_list(unsigned port, unsigned count) {
+    for (unsigned i = 1; fault == LIST_EVENT_EACH && i < count; i++)
+        take32(header_at(port, RSP_EVENT));
+    for (unsigned i = 0; fault == LIST_EVENT_BY_BYTES && i < INDEX_BYTES; i++)
+        take_byte(header_at(port, RSP_EVENT) + i);
+    if (fault == LIST_EVENT_BY_BYTES)
+        return is_event_passed(port, count);
+    return notifies(port, count);
+}
+
+static void meet_empty_list(unsigned port) {
+    if (fault == LIST_EMPTY_PUBLISHES)
+        give32(header_at(port, RSP_PROD));
+    if (fault == LIST_EMPTY_LOOKS)
+        take32(header_at(port, RSP_EVENT));
+}
+
+/* What is refused has an entry at fault. */
+static void meet_bad_list(unsigned port) {
+    if (fault == LIST_REFUSED_LOOKS)
+        take32(header_at(port, RSP_EVENT));
+    if (fault == LIST_DONE_UNTIL_THE_BAD)
+        give_response(port, bench.ports[port].answered);
+}
+
+static uint32_t complete_many(kh_memory *memory, uint8_t *lent, size_t rings_bytes, uint32_t port,
+                              const uint64_t *entries, size_t entry_words, uint64_t *answer) {
+    uint32_t refusal = kh_complete_many(memory, copy, rings_bytes, port, entries, entry_words, answer);
+    unsigned count = (unsigned)(entry_words / KH_ENTRY_WORDS);
+    live = lent;
+    if (refusal == KH_NOT_BUSY)
+        meet_bad_list(port);
     if (refusal != KH_OK)
         return refusal;
-    take_rsp_event(port);
-    kh_complete(memory, copy, rings_bytes, port, tag, serial, result, answer);
-    give_response(port);
+    if (count == 0) {
+        meet_empty_list(port);
+        return KH_OK;
+    }
+    begin_responses(port);
+    give_responses(port, count);
+    for (unsigned i = 0; fault == LIST_PUBLISHED_BY_BYTES && i < INDEX_BYTES; i++)
+        give_byte(header_at(port, RSP_PROD) + i);
+    if (fault != LIST_PUBLISHED_BEFORE_THE_LAST && fault != LIST_PUBLISHED_BY_BYTES)
+        give_rsp_prod(port);
+    answer[KH_MANY_NOTIFY] = notifies_of_list(port, count);
     return KH_OK;
 }
 
 const struct backend *backend_named(const char *name) {
-    static const struct backend standin = {turn, complete, standin_put, standin_collect};
+    static const struct backend standin = {turn, complete, complete_many, standin_put, standin_collect};
     if (!name)
         return &archive;
     for (unsigned i = 0; i < sizeof names / sizeof *names; i++)

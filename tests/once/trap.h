@@ -6,7 +6,7 @@
 #include <stdbool.h>
 #include <stdint.h>
 
-enum { MOST_ACCESSES = 512, WIDEST = 16 };
+enum { MOST_ACCESSES = 1024, WIDEST = 16 };
 
 struct access {
     uintptr_t instruction;

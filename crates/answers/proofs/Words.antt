@@ -1,7 +1,7 @@
 -- The words of an answer: what is written around the extents, and over all. Assumes nothing.
 use mathlib.Core.Path.{_≡_, ap, _∙_}
 use mathlib.Core.List.{List, [], _++_, append-nil}
-use Prim.Native.Nat.{ℕ}
+use Prim.Native.Nat.{ℕ, _≤_}
 use native.Mathlib.Nat.{zero-add}
 use native.Mathlib.Omega.{arith}
 use lib.ListN.{length, take, drop, replicate, length-append, length-drop, drop-of-length-le}
@@ -15,13 +15,17 @@ ends ys kept h e =
     let none : drop 64 ys ≡ [] = drop-of-length-le ys {i = 64} (omega arith) in
     sets-eq (replicate 4 0) ys 60 (omega arith) ∙ rw (e, none) (append-nil (kept ++ replicate 4 0))
 
+-- words put in front
+pub front-put : (xs vs : List ℕ) → length vs ≤ length xs → sets xs 0 vs ≡ vs ++ drop (length vs) xs
+front-put xs vs h = sets-eq vs xs 0 (omega arith) ∙ rw zero-add
+
 -- sixteen words put in front, and zeros at the end
 pub values-put : (xs vs : List ℕ) → length xs ≡ 64 → length vs ≡ 16
     → sets (sets xs 0 vs) 60 (replicate 4 0) ≡ vs ++ extentsIn xs ++ replicate 4 0
 unfolding part
 values-put xs vs h l =
     let rest = drop 16 xs in
-    let front : sets xs 0 vs ≡ vs ++ rest = sets-eq vs xs 0 (omega arith) ∙ rw (zero-add, l) in
+    let front : sets xs 0 vs ≡ vs ++ rest = rw l at (front-put xs vs (omega arith)) in
     let long : length (vs ++ rest) ≡ 64 = simp (length-append, length-drop) (omega arith) in
     let kept : take 60 (vs ++ rest) ≡ vs ++ take 44 rest = rw l at (take-append-add vs rest 44) in
     ap (λ (z : List ℕ). sets z 60 (replicate 4 0)) front ∙ ends (vs ++ rest) (vs ++ take 44 rest) long kept
@@ -30,4 +34,4 @@ values-put xs vs h l =
 pub all-put : (xs vs : List ℕ) → length xs ≡ length vs → sets xs 0 vs ≡ vs
 all-put xs vs h =
     let none : drop (length vs) xs ≡ [] = drop-of-length-le xs {i = length vs} (omega arith) in
-    sets-eq vs xs 0 (omega arith) ∙ rw (zero-add, none) (append-nil vs)
+    front-put xs vs (omega arith) ∙ rw none (append-nil vs)

@@ -7,7 +7,8 @@ use model::PortId;
 use model::Status;
 use model::buffer::DONE_WORDS;
 ghost use mathlib.Core.Path.{_≡_};
-ghost use Rattle.model.specs.Answers.{completedNumber, completedWords, doneAnswer, doneLeft};
+ghost use Rattle.model.specs.Answers.{completedNumber, doneLeft};
+ghost use Rattle.model.specs.Complete.{ofOne};
 ghost use Rattle.model.specs.declared.Completed.{Completed as Done};
 
 // Which word of the answer is which. The last is 0.
@@ -18,7 +19,7 @@ pub const DONE_STATUS: usize = 1;
 const DONE_NOTIFY: usize = 2;
 
 fn put_done(answer: &mut [u64; DONE_WORDS], port: PortId, status: Status, notify: bool)
-    ensures { λ _. ⌜ now (answer .exit) ≡ doneAnswer (completedWords (Done.Done port status notify)) ⌝ }
+    ensures { λ _. ⌜ now (answer .exit) ≡ doneLeft (ofOne (Done.Done port status notify)) (now (answer .entry)) ⌝ }
 {
     seen(answer);
     answer[DONE_PORT] = port.0 as u64;
@@ -29,7 +30,7 @@ fn put_done(answer: &mut [u64; DONE_WORDS], port: PortId, status: Status, notify
 
 // The answer of a completion as words, and the number to return.
 pub fn put_completed(answer: &mut [u64; DONE_WORDS], completed: Completed) -> u32
-    ensures { λ n. ⌜ (n ≡ completedNumber completed) × (now (answer .exit) ≡ doneLeft completed (now (answer .entry))) ⌝ }
+    ensures { λ n. ⌜ (n ≡ completedNumber (ofOne completed)) × (now (answer .exit) ≡ doneLeft (ofOne completed) (now (answer .entry))) ⌝ }
 {
     match completed {
         Completed::Refused(n) => n,

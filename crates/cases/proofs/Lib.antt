@@ -1,1 +1,3 @@
+pub mod Buffers
 pub mod Run
+pub mod Lists

@@ -16,61 +16,19 @@ use Rattle.model.specs.Port.{isBusy, inFlightOf, lowestFree, distance, pendingO
 use Rattle.model.specs.Checks.{isEmptyBarrier, movesNothing, sectorsIn, totalSectors, countOf, dataSegments, isAligned, isOnBoundaries, isGranted, unknownOperation, featureOff, readOnly, wrongAmount, isWithinFrame, wrongSegment, notGranted, pastEnd, unaligned, operationChecks, segmentChecks, diskChecks, checks}
 use Rattle.model.specs.Plan.{extentsFrom, extentsOf, extentWords, wordsBeside, asksSecure, isSecure, planOf, verdictOf}
 use Rattle.model.specs.Calls.{Call, Open, Close, Turn, Complete, Effect, Event}
-use Rattle.model.specs.Turn.{portId, tagId, serialOf, pendingAt, hasWork, passedOver, armed, idle, responded, respondedAt, notifies, requestAt, settled, overran, servedBy, turned}
-use Rattle.model.specs.Complete.{expectedOf, statusOf, completed}
-use Rattle.model.specs.Rules.{openedBy, dueOpen, dueClose, dueTurn, namesNone, refusedCompletion, dueComplete, effectDue}
+use Rattle.model.specs.Turn.{portId, tagId, serialOf, pendingAt, hasWork, passedOver, armed, idle, written, respondedAll, respondedAllAt, tells, notifiesAll, responded, respondedAt, notifies, requestAt, settled, overran, servedBy, turned}
+use Rattle.model.specs.Complete.{completionAt, completionsFrom, completionsIn, theOne, expectedOf, statusOf, responseFor, responsesFor, completed}
+use Rattle.model.specs.Rules.{openedBy, dueOpen, dueClose, dueTurn, namesNone, anyNamesNone, anyNames, namedTwice, refusedCompletion, dueComplete, effectDue}
 use Rattle.model.specs.Backend.{Backend, emptyBackend, viewOf, withPort, withTag, withPointer, does, next, afterCall}
 use Rattle.model.specs.History.{Response, Book, asked, said as saidIn, answerTo, book, unfinished, pairsOf, hasToServe, Seen, turnsOf, historyFrom, history}
-use Rattle.model.specs.Answers.{turnedNumber, turnedWords, completedNumber, completedWords, replyNumber}
+use Rattle.model.specs.Answers.{turnedNumber, turnedWords, completedNumber, doneLeft, replyNumber}
 use Rattle.model.specs.declared.Pair.{Pair}
 use Rattle.model.specs.declared.Port.{Port}
 use Rattle.model.specs.declared.State.{State}
 use Rattle.model.specs.declared.Status.{Status}
+use Rattle.cases.proofs.Buffers.{sheet, sheet32, sheetTwo, sheet32Two, header, asking, page64, page32, grants, words, rings}
 
 -- ---- buffers
-
--- a sheet with the three nodes that must be there: writable, sectors of 512 bytes, 2008 of them
-abbrev sheet : List ℕ
-sheet = 0x03 ∷ 0x01 ∷ 0x00 ∷ 0x01 ∷ 0x00 ∷ 0x06 ∷ 0x00 ∷ 0x03 ∷ 0x00 ∷ 0x07 ∷ 0x00 ∷ 0x04 ∷ 0x00 ∷ 0x77 ∷ 0x35 ∷ 0x31 ∷ 0x32 ∷ 0x32 ∷ 0x30 ∷ 0x30 ∷ 0x38 ∷ []
-
--- the same with the protocol "x86_32-abi"
-abbrev sheet32 : List ℕ
-sheet32 = 0x04 ∷ 0x01 ∷ 0x00 ∷ 0x01 ∷ 0x00 ∷ 0x06 ∷ 0x00 ∷ 0x03 ∷ 0x00 ∷ 0x07 ∷ 0x00 ∷ 0x04 ∷ 0x00 ∷ 0x08 ∷ 0x00 ∷ 0x0a ∷ 0x00 ∷ 0x77 ∷ 0x35 ∷ 0x31 ∷ 0x32 ∷ 0x32 ∷ 0x30 ∷ 0x30 ∷ 0x38 ∷ 0x78 ∷ 0x38 ∷ 0x36 ∷ 0x5f ∷ 0x33 ∷ 0x32 ∷ 0x2d ∷ 0x61 ∷ 0x62 ∷ 0x69 ∷ []
-
--- the first with the page order "1"
-abbrev sheetTwo : List ℕ
-sheetTwo = 0x04 ∷ 0x01 ∷ 0x00 ∷ 0x01 ∷ 0x00 ∷ 0x06 ∷ 0x00 ∷ 0x03 ∷ 0x00 ∷ 0x07 ∷ 0x00 ∷ 0x04 ∷ 0x00 ∷ 0x09 ∷ 0x00 ∷ 0x01 ∷ 0x00 ∷ 0x77 ∷ 0x35 ∷ 0x31 ∷ 0x32 ∷ 0x32 ∷ 0x30 ∷ 0x30 ∷ 0x38 ∷ 0x31 ∷ []
-
--- the second with the page order "1"
-abbrev sheet32Two : List ℕ
-sheet32Two = 0x05 ∷ 0x01 ∷ 0x00 ∷ 0x01 ∷ 0x00 ∷ 0x06 ∷ 0x00 ∷ 0x03 ∷ 0x00 ∷ 0x07 ∷ 0x00 ∷ 0x04 ∷ 0x00 ∷ 0x08 ∷ 0x00 ∷ 0x0a ∷ 0x00 ∷ 0x09 ∷ 0x00 ∷ 0x01 ∷ 0x00 ∷ 0x77 ∷ 0x35 ∷ 0x31 ∷ 0x32 ∷ 0x32 ∷ 0x30 ∷ 0x30 ∷ 0x38 ∷ 0x78 ∷ 0x38 ∷ 0x36 ∷ 0x5f ∷ 0x33 ∷ 0x32 ∷ 0x2d ∷ 0x61 ∷ 0x62 ∷ 0x69 ∷ 0x31 ∷ []
-
--- a port's share: a ring with slots of some bytes and the id at a place; req_prod, rsp_event 2, and in slot i an operation on one segment, sectors 0 to 7 of
--- frame 5, at a start sector
-page : ℕ → ℕ → ℕ → ℕ → ℕ → ℕ → ℕ → List ℕ
-page bytes idAt produced i operation id start =
-    let at = 64 + bytes * i in
-    let header = store 4 (store 4 (replicate 8192 0) 0 produced) 12 2 in
-    let request = store 8 (store 8 (store 1 (store 1 header at operation) (at + 1) 1) (at + idAt) id) (at + idAt + 8) start in
-    store 1 (store 4 request (at + idAt + 16) 5) (at + idAt + 21) 7
-
--- in the two layouts
-abbrev page64 : ℕ → ℕ → ℕ → ℕ → ℕ → List ℕ
-page64 = page 112 8
-
-abbrev page32 : ℕ → ℕ → ℕ → ℕ → ℕ → List ℕ
-page32 = page 108 4
-
--- every frame of every port may be read and written
-grants : List ℕ
-grants = replicate 8192 2
-
-words : List ℕ
-words = replicate 44 9
-
--- the rings with the shares of ports 2 and 3, the others zero
-rings : List ℕ → List ℕ → List ℕ
-rings two three = replicate 16384 0 ++ (two ++ (three ++ replicate 32768 0))
 
 -- a read of port 2, whose guest has 32 bits and one page, and a write of port 3, whose guest has 64 and two, wait
 both : List ℕ
@@ -87,6 +45,13 @@ overfull = rings (page32 3 2 9 0x24 0) (page64 65 0 0 0 0)
 -- port 2, opened once more and for a 64-bit guest, has a request waiting
 again : List ℕ
 again = rings (page64 1 0 0 0x23 2000) (page64 65 0 0 0 0)
+
+-- port 3, opened once more for a 32-bit guest with two pages, has three requests waiting, and its rsp_event is 3
+three : List ℕ
+three =
+    let one = asking 108 4 (header 3 3) 0 0 0x41 2000 in
+    let two = asking 108 4 one 1 1 0x42 2000 in
+    rings (page64 1 0 0 0x23 2000) (asking 108 4 two 2 0 0x43 2000)
 
 -- ---- a history
 
@@ -114,15 +79,15 @@ earlier =
     ∷ Close (portId 8)
     ∷ Close (portId 4)
     -- no rings; no port; a closed one; a tag that the ring has not; a free one; another serial
-    ∷ Complete [] (portId 9) (tagId 0) (serialOf 0) (pos 8)
-    ∷ Complete unknown (portId 8) (tagId 0) (serialOf 0) (pos 8)
-    ∷ Complete unknown (portId 4) (tagId 0) (serialOf 0) (pos 8)
-    ∷ Complete unknown (portId 2) (tagId 32) (serialOf 0) (pos 8)
-    ∷ Complete unknown (portId 2) (tagId 1) (serialOf 0) (pos 8)
-    ∷ Complete unknown (portId 2) (tagId 0) (serialOf 1) (pos 8)
+    ∷ Complete [] (portId 9) (theOne (tagId 0) (serialOf 0) (pos 8))
+    ∷ Complete unknown (portId 8) (theOne (tagId 0) (serialOf 0) (pos 8))
+    ∷ Complete unknown (portId 4) (theOne (tagId 0) (serialOf 0) (pos 8))
+    ∷ Complete unknown (portId 2) (theOne (tagId 32) (serialOf 0) (pos 8))
+    ∷ Complete unknown (portId 2) (theOne (tagId 1) (serialOf 0) (pos 8))
+    ∷ Complete unknown (portId 2) (theOne (tagId 0) (serialOf 1) (pos 8))
     -- and the one that was started; then the same, doubled
-    ∷ Complete unknown (portId 2) (tagId 0) (serialOf 0) (pos 8)
-    ∷ Complete unknown (portId 2) (tagId 0) (serialOf 0) (pos 8)
+    ∷ Complete unknown (portId 2) (theOne (tagId 0) (serialOf 0) (pos 8))
+    ∷ Complete unknown (portId 2) (theOne (tagId 0) (serialOf 0) (pos 8))
     ∷ []
 
 later : List Call
@@ -134,10 +99,19 @@ later =
     ∷ Close (portId 2)
     ∷ Open (portId 2) sheet
     ∷ Turn again grants words
-    ∷ Complete again (portId 2) (tagId 0) (serialOf 0) (negsuc 94)
+    ∷ Complete again (portId 2) (theOne (tagId 0) (serialOf 0) (negsuc 94))
     -- the broken port's completion works, and it can be closed
-    ∷ Complete again (portId 3) (tagId 0) (serialOf 0) (pos 7)
+    ∷ Complete again (portId 3) (theOne (tagId 0) (serialOf 0) (pos 7))
     ∷ Close (portId 3)
+    -- it is opened once more; three requests are started, and one list ends them, the last one first
+    ∷ Open (portId 3) sheet32Two
+    ∷ Turn three grants words
+    ∷ Turn three grants words
+    ∷ Turn three grants words
+    ∷ Complete three (portId 3) (2 ∷ 2 ∷ 7 ∷ 0 ∷ 0 ∷ 8 ∷ 1 ∷ 1 ∷ 0xffffffffffffffa1 ∷ [])
+    -- the same again, and a list of none
+    ∷ Complete three (portId 3) (2 ∷ 2 ∷ 7 ∷ 0 ∷ 0 ∷ 8 ∷ 1 ∷ 1 ∷ 0xffffffffffffffa1 ∷ [])
+    ∷ Complete three (portId 3) []
     ∷ []
 
 -- what is looked at of an event: the refusal's number, or the answer's values
@@ -153,7 +127,7 @@ abbrev saidBy : (c : Call) → Effect c → Said
 saidBy (Open p s) e = say (replyNumber e) []
 saidBy (Close p) e = say (replyNumber e) []
 saidBy (Turn r g w) e = say (turnedNumber (e .answer)) (turnedWords (e .answer))
-saidBy (Complete r p t s x) e = say (completedNumber (e .answer)) (completedWords (e .answer))
+saidBy (Complete r p entries) e = say (completedNumber (e .answer)) (doneLeft (e .answer) [])
 
 -- in the order of the calls, before those already looked at
 inOrder : List Event → List Said → List Said
@@ -178,24 +152,26 @@ response id operation status told = record { pair = pair id operation; status = 
 abbrev turnSeen : Bool → Option ℕ → Seen
 turnSeen w j = record { wanted = w; chosen = j }
 
--- what is looked at of a history whose latest eight calls are the later ones
+-- what is looked at of a history whose latest fifteen calls are the later ones
 record Looked : Type 0 where
   -- the answers, in the order of the calls
   answers : List Said
   -- the books of port 2 before it was closed, and of port 3 then
   before : Lines
   waiting : Lines
-  -- the books of port 2 since it was opened once more
+  -- the books of port 2 since it was opened once more, and of port 3
   reopened : Lines
+  listed : Lines
   -- the turns as port 3 sees them, the latest first
   turns : List Seen
 
 abbrev looked : List Event → Looked
 looked h = record {
   answers = inOrder h [];
-  before = linesOf (book 2 (drop 8 h));
-  waiting = linesOf (book 3 (drop 8 h));
+  before = linesOf (book 2 (drop 15 h));
+  waiting = linesOf (book 3 (drop 15 h));
   reopened = linesOf (book 2 h);
+  listed = linesOf (book 3 h);
   turns = turnsOf 3 h;
 }
 
@@ -227,23 +203,40 @@ computed :
           ∷ refused 6
           ∷ refused 6
           ∷ refused 6
-          ∷ done (2 ∷ 0 ∷ 1 ∷ [])
+          ∷ done (2 ∷ 0 ∷ 1 ∷ 0 ∷ [])
           ∷ refused 6
           ∷ done (3 ∷ 3 ∷ replicate 10 0)
           ∷ done (2 ∷ 2 ∷ 0 ∷ 0 ∷ 0 ∷ 0 ∷ 0 ∷ 0 ∷ 0 ∷ 21 ∷ 2 ∷ 0 ∷ [])
           ∷ done []
           ∷ done []
           ∷ done (1 ∷ 2 ∷ 0 ∷ 0 ∷ 0 ∷ 2000 ∷ 8 ∷ 0 ∷ 1 ∷ 0 ∷ 0 ∷ 0 ∷ [])
-          ∷ done (2 ∷ 2 ∷ 0 ∷ [])
-          ∷ done (3 ∷ 1 ∷ 0 ∷ [])
+          ∷ done (2 ∷ 2 ∷ 0 ∷ 0 ∷ [])
+          ∷ done (3 ∷ 1 ∷ 0 ∷ 0 ∷ [])
           ∷ done []
+          ∷ done []
+          ∷ done (1 ∷ 3 ∷ 0 ∷ 0 ∷ 0 ∷ 2000 ∷ 8 ∷ 0 ∷ 1 ∷ 0 ∷ 0 ∷ 0 ∷ [])
+          ∷ done (1 ∷ 3 ∷ 1 ∷ 1 ∷ 1 ∷ 2000 ∷ 8 ∷ 0 ∷ 1 ∷ 0 ∷ 0 ∷ 0 ∷ [])
+          ∷ done (1 ∷ 3 ∷ 2 ∷ 2 ∷ 0 ∷ 2000 ∷ 8 ∷ 0 ∷ 1 ∷ 0 ∷ 0 ∷ 0 ∷ [])
+          ∷ done (3 ∷ 1 ∷ 0 ∷ 2 ∷ 1 ∷ 0 ∷ [])
+          ∷ refused 6
+          ∷ done (3 ∷ 0 ∷ 0 ∷ [])
           ∷ [];
       -- its read was answered after the unknown operation
       before = record { taken = pair 0x22 9 ∷ pair 0x21 0 ∷ []; answered = response 0x21 0 0 Status.Okay ∷ response 0x22 9 0xfffe Status.NotSupported ∷ []; left = [] };
       waiting = record { taken = pair 0x31 1 ∷ []; answered = []; left = pair 0x31 1 ∷ [] };
       reopened = record { taken = pair 0x23 0 ∷ []; answered = response 0x23 0 0xfffe Status.NotSupported ∷ []; left = [] };
+      -- the answers in the list's order, the latest first
+      listed =
+          record {
+            taken = pair 0x43 0 ∷ pair 0x42 1 ∷ pair 0x41 0 ∷ [];
+            answered = response 0x42 1 0xfffe Status.NotSupported ∷ response 0x41 0 0 Status.Okay ∷ response 0x43 0 0xffff Status.Error ∷ [];
+            left = [];
+          };
       turns =
-          turnSeen false (some 2)
+          turnSeen true (some 3)
+          ∷ turnSeen true (some 3)
+          ∷ turnSeen true (some 3)
+          ∷ turnSeen false (some 2)
           ∷ turnSeen false (some 2)
           ∷ turnSeen true (some 3)
           ∷ turnSeen false none
@@ -252,7 +245,7 @@ computed :
           ∷ turnSeen true (some 2)
           ∷ [];
     }
-unfolding page rings grants words load store part setPart all same least tally pagesOf setPages grantsOf reqProd setReqEvent setRspProd rspEvent ringFor slotAt slotOf segmentOf segmentsOf requestOf setResponse entryAt bodyLength entriesFrom entriesOf bodiesEnd wellFormed rising isDigit digitsFrom capped digitsOf numberOf choiceBody numberBody isSectorSize isAllowed bodyOf afterBody afterBodies valueOf absent valuesOf present paramsOf hasRequired sheetOf isBusy inFlightOf lowestFree distance pendingOf isEmptyBarrier movesNothing sectorsIn totalSectors countOf dataSegments isAligned isOnBoundaries isGranted unknownOperation featureOff readOnly wrongAmount isWithinFrame wrongSegment notGranted pastEnd unaligned operationChecks segmentChecks diskChecks checks extentsFrom extentsOf extentWords wordsBeside asksSecure isSecure planOf verdictOf pendingAt hasWork passedOver armed idle responded respondedAt notifies requestAt settled overran servedBy turned expectedOf statusOf completed openedBy dueOpen dueClose dueTurn namesNone refusedCompletion dueComplete effectDue viewOf withPort withTag withPointer does next both unknown overfull again earlier later inOrder historyFrom book answerTo unfinished asked saidIn responsePair turnsOf hasToServe responseStatus
+unfolding header asking rings grants words load store part setPart all same least tally pagesOf setPages grantsOf reqProd setReqEvent setRspProd rspEvent ringFor slotAt slotOf segmentOf segmentsOf requestOf setResponse entryAt bodyLength entriesFrom entriesOf bodiesEnd wellFormed rising isDigit digitsFrom capped digitsOf numberOf choiceBody numberBody isSectorSize isAllowed bodyOf afterBody afterBodies valueOf absent valuesOf present paramsOf hasRequired sheetOf isBusy inFlightOf lowestFree distance pendingOf isEmptyBarrier movesNothing sectorsIn totalSectors countOf dataSegments isAligned isOnBoundaries isGranted unknownOperation featureOff readOnly wrongAmount isWithinFrame wrongSegment notGranted pastEnd unaligned operationChecks segmentChecks diskChecks checks extentsFrom extentsOf extentWords wordsBeside asksSecure isSecure planOf verdictOf pendingAt hasWork passedOver armed idle written respondedAll respondedAllAt tells notifiesAll responded respondedAt notifies requestAt settled overran servedBy turned completionAt completionsFrom completionsIn expectedOf statusOf responseFor responsesFor completed openedBy dueOpen dueClose dueTurn namesNone anyNamesNone anyNames namedTwice refusedCompletion dueComplete effectDue viewOf withPort withTag withPointer does next both unknown overfull again three earlier later inOrder historyFrom book answerTo unfinished asked saidIn responsePair turnsOf hasToServe responseStatus
 computed = refl
 
 -- ---- bytes of the rings
@@ -304,5 +297,5 @@ record Bytes : Type 0 where
   extents32 : turn sheet32 (lent32 2000) .words ≡ 5 ∷ 0 ∷ 8 ∷ 2000 ∷ replicate 40 0
 
 bytes : Bytes
-unfolding lent lent32 opened wrote wroteFar page rings grants words load store part setPart all same least tally pagesOf setPages grantsOf reqProd setReqEvent setRspProd rspEvent ringFor slotAt slotOf segmentOf segmentsOf requestOf setResponse entryAt bodyLength entriesFrom entriesOf bodiesEnd wellFormed rising isDigit digitsFrom capped digitsOf numberOf choiceBody numberBody isSectorSize isAllowed bodyOf afterBody afterBodies valueOf absent valuesOf present paramsOf hasRequired sheetOf isBusy inFlightOf lowestFree distance pendingOf isEmptyBarrier movesNothing sectorsIn totalSectors countOf dataSegments isAligned isOnBoundaries isGranted unknownOperation featureOff readOnly wrongAmount isWithinFrame wrongSegment notGranted pastEnd unaligned operationChecks segmentChecks diskChecks checks extentsFrom extentsOf extentWords wordsBeside asksSecure isSecure planOf verdictOf pendingAt hasWork passedOver armed idle responded respondedAt notifies requestAt settled overran servedBy turned expectedOf statusOf completed openedBy dueOpen dueClose dueTurn namesNone refusedCompletion dueComplete effectDue viewOf withPort withTag withPointer does next
+unfolding lent lent32 opened wrote wroteFar header asking rings grants words load store part setPart all same least tally pagesOf setPages grantsOf reqProd setReqEvent setRspProd rspEvent ringFor slotAt slotOf segmentOf segmentsOf requestOf setResponse entryAt bodyLength entriesFrom entriesOf bodiesEnd wellFormed rising isDigit digitsFrom capped digitsOf numberOf choiceBody numberBody isSectorSize isAllowed bodyOf afterBody afterBodies valueOf absent valuesOf present paramsOf hasRequired sheetOf isBusy inFlightOf lowestFree distance pendingOf isEmptyBarrier movesNothing sectorsIn totalSectors countOf dataSegments isAligned isOnBoundaries isGranted unknownOperation featureOff readOnly wrongAmount isWithinFrame wrongSegment notGranted pastEnd unaligned operationChecks segmentChecks diskChecks checks extentsFrom extentsOf extentWords wordsBeside asksSecure isSecure planOf verdictOf pendingAt hasWork passedOver armed idle written respondedAll respondedAllAt tells notifiesAll responded respondedAt notifies requestAt settled overran servedBy turned completionAt completionsFrom completionsIn expectedOf statusOf responseFor responsesFor completed openedBy dueOpen dueClose dueTurn namesNone anyNamesNone anyNames namedTwice refusedCompletion dueComplete effectDue viewOf withPort withTag withPointer does next
 bytes = record { response = refl; response32 = refl; farOne = refl; farTwo = refl; farTwo32 = refl; answeredHeader = refl; idleHeader = refl; extents = refl; extents32 = refl }

@@ -1,9 +1,11 @@
 -- What the tables of specs say of words that they do not name, and of a call that was refused or done. Assumes nothing.
 use mathlib.Core.Path.{_≡_, refl}
 use mathlib.Core.Logic.{_≢_}
+use mathlib.Core.List.{List}
 use Prim.Native.Nat.{ℕ, zero, suc}
-use Rattle.model.specs.Counters.{kindTaken, wordCounter, kindStatus, ifDone}
+use Rattle.model.specs.Counters.{kindTaken, wordCounter, kindStatus, ifDone, manyMetered}
 use Rattle.model.specs.declared.Counter.{Counter}
+use Rattle.model.specs.declared.Counters.{Counters}
 
 pub kind-none : (n : ℕ) → n ≢ 1 → n ≢ 2 → Counter.Nothing ≡ kindTaken n
 kind-none zero one two = refl
@@ -30,3 +32,8 @@ refused-none (suc n) which none = refl
 
 pub done-named : (n : ℕ) (which r : Counter) → n ≡ 0 → r ≡ which → r ≡ ifDone n which
 done-named n which r z e = rw z e
+
+-- by a list of completions that was refused the record stays
+pub refused-stays : (n : ℕ) (words : List ℕ) (c : Counters) → n ≢ 0 → c ≡ manyMetered n words c
+refused-stays zero words c none = absurd (none refl)
+refused-stays (suc n) words c none = refl

@@ -6,7 +6,9 @@ use model::Counters;
 use model::Status;
 use model::Turned;
 ghost use mathlib.Core.Path.{_≡_};
-ghost use Rattle.model.specs.Counters.{statusCounter, turnTaken, turnStatus, completedStatus, afterTurned, afterCompleted};
+ghost use Rattle.model.specs.Counters.{statusCounter, turnTaken, turnStatus, raisedBy, afterTurned, afterCompleted};
+ghost use Rattle.model.specs.declared.Counters.{Counters};
+ghost use Rattle.model.specs.Complete.{ofOne};
 
 // The number of a status.
 fn of_status(status: Status) -> Counter
@@ -45,16 +47,6 @@ fn answered_by(turned: Turned) -> Counter
     }
 }
 
-// The number of the status, where the completion was done.
-fn completed_by(completed: Completed) -> Counter
-    ensures { λ r. ⌜ r ≡ completedStatus completed ⌝ }
-{
-    match completed {
-        Completed::Refused(_) => Counter::Nothing,
-        Completed::Done(_, status, _) => of_status(status),
-    }
-}
-
 pub fn after_turn(counters: Counters, turned: Turned) -> Counters
     ensures { λ r. ⌜ r ≡ afterTurned turned counters ⌝ }
 {
@@ -62,8 +54,18 @@ pub fn after_turn(counters: Counters, turned: Turned) -> Counters
     raised(taken, answered_by(turned))
 }
 
+// The number that a completion of one request raises.
+fn completed_by(completed: Completed) -> Counter
+    ensures { λ r. ⌜ ((c : Counters) → raisedBy r c ≡ afterCompleted (ofOne completed) c) ⌝ }
+{
+    match completed {
+        Completed::Refused(_) => Counter::Nothing,
+        Completed::Done(_, status, _) => of_status(status),
+    }
+}
+
 pub fn after_completion(counters: Counters, completed: Completed) -> Counters
-    ensures { λ r. ⌜ r ≡ afterCompleted completed counters ⌝ }
+    ensures { λ r. ⌜ r ≡ afterCompleted (ofOne completed) counters ⌝ }
 {
     raised(counters, completed_by(completed))
 }

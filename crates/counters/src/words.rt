@@ -12,7 +12,7 @@ ghost use mathlib.Core.Path.{_≡_};
 ghost use Rattle.model.specs.Counters.{kindTaken, wordCounter, kindStatus, takenIn, statusIn, doneIn};
 
 // What a call returns that was done (rule 14.5).
-const DONE: u32 = 0;
+pub const DONE: u32 = 0;
 
 fn of_kind(kind: u64) -> Counter
     ensures { λ r. ⌜ r ≡ kindTaken kind ⌝ }
@@ -26,7 +26,7 @@ fn of_kind(kind: u64) -> Counter
     }
 }
 
-fn of_word(status: u64) -> Counter
+pub fn of_word(status: u64) -> Counter
     ensures { λ r. ⌜ r ≡ wordCounter status ⌝ }
 {
     match status {

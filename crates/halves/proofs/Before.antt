@@ -7,23 +7,23 @@ use Prim.Native.Nat.{ℕ}
 use native.Mathlib.Decide.{ℕ-discrete}
 use borrow.Author.Tests.{eq-eqb, ne-eqb}
 use Rattle.model.specs.Backend.{Backend, emptyBackend, eventOn, afterCall}
-use Rattle.model.specs.Calls.{Call, Open, Close, Turn, Complete, Effect, Event}
-use Rattle.model.specs.Complete.{expectedOf}
-use Rattle.model.specs.Deeds.{Deed, opening, closing, breaking, starting, answering, finishing, portOf, paramsIn, turnDeeds, completeDeeds, deeds}
+use Rattle.model.specs.Calls.{Call, Open, Close, Turn, Complete, CompleteAnswer, noneDone, allDone, Effect, Event}
+use Rattle.model.specs.Complete.{Completion, completionsIn, expectedOf}
+use Rattle.model.specs.Deeds.{Deed, opening, closing, breaking, starting, answering, portOf, paramsIn, turnDeeds, completeDeeds, deeds}
 use Rattle.model.specs.Demand.{All, LendsBytes}
 use Rattle.model.specs.History.{posts, book, viewAt, historyFrom, history, backendAfter}
 use Rattle.model.specs.NodeSheet.{sheetOf}
 use Rattle.model.specs.Port.{isClosed}
-use Rattle.model.specs.declared.Completed.{Completed}
 use Rattle.model.specs.declared.Reply.{Reply}
 use Rattle.model.specs.declared.Turned.{Turned}
 use Rattle.model.proofs.Base.{clash}
 use Rattle.model.proofs.Conservation.{Sound}
-use Rattle.model.proofs.DueFacts.{Chosen, Facts, TurnFacts, facts-due}
+use Rattle.model.proofs.DueFacts.{Chosen, Facts, TurnFacts, CompleteFacts, facts-due}
 use Rattle.model.proofs.Permitted.{sound, chosen-open}
 use Rattle.model.proofs.Refinement.{Told, told-empty, told-step}
 use Rattle.halves.specs.Claim.{NotOverrun, NotOpening}
 use Rattle.halves.specs.System.{tookAll, slotsTaken}
+use Rattle.halves.proofs.Finishings.{took-none, posts-others}
 
 -- what is kept until then
 pub record Before (k : ℕ) (b : Backend) (h : List Event) : Type 0 where
@@ -58,17 +58,21 @@ module _ (k : ℕ) (h : List Event) (o : Sound (book k h)) (closed : isClosed (b
       go left (Turned.Overrun p) f = other (breaking (p .0)) (not-chosen rings (p .0) f)
       go left (Turned.Started p t s plan) f = other (starting (p .0) rings (t .0) (s .0) (expectedOf plan)) (not-chosen rings (p .0) (f .choice))
       go left (Turned.Answered p n z y) f = other (answering (p .0) rings left z) (not-chosen rings (p .0) (f .choice))
-  silent-call (Complete rings p t s x) e ne f = go (e .rings) (e .answer) f
+  silent-call (Complete rings p entries) e ne f = go (e .rings) (e .answer) f
     where
-      go : (left : List ℕ) (y : Completed) → Facts (viewAt h) (Complete rings p t s x) (record { rings = left; answer = y }) → Silent (completeDeeds left (p .0) (t .0) (s .0) y)
-      go left (Completed.Refused n) f = (closed, refl)
-      go left (Completed.Done q z y) f =
-          other (finishing (p .0) left (t .0) (s .0) z) (λ d. clash closed (subst (λ (j : ℕ). isClosed (book j h .state) ≡ false) (sym d) (f .opened)))
+      cs : List Completion
+      cs = completionsIn entries
+
+      go : (left : List ℕ) (y : CompleteAnswer) → CompleteFacts (viewAt h) rings left p cs y → Silent (completeDeeds left (p .0) cs y)
+      go left (noneDone n) f = (closed, refl)
+      go left (allDone q zs y) f =
+          let ne : k ≢ p .0 = λ d. clash closed (subst (λ (j : ℕ). isClosed (book j h .state) ≡ false) (sym d) (f .opened)) in
+          rw (posts-others k (p .0) left ne cs zs (book k h), took-none k (p .0) left cs zs (book k h)) (closed, refl)
 
   quiet-call : (c : Call) (e : Effect c) → Facts (viewAt h) c e → NotOverrun k c e
   quiet-call (Open p sheet) e f = tt
   quiet-call (Close p) e f = tt
-  quiet-call (Complete rings p t s x) e f = tt
+  quiet-call (Complete rings p entries) e f = tt
   quiet-call (Turn rings grants words) e f = λ q. not-chosen rings k (subst (λ (y : Turned). TurnFacts (viewAt h) rings (e .rings) y) q f) refl
 
 pub before-step : (k : ℕ) (b : Backend) (h : List Event) (c : Call) → LendsBytes c → NotOpening k c → Before k b h → Before k (afterCall b c) (eventOn b c ∷ h)

@@ -2,35 +2,31 @@
 -- and when an answer tells its guest. Assumes nothing.
 use mathlib.Core.Path.{_≡_, refl, sym, ap, _∙_, subst}
 use mathlib.Core.Logic.{_≢_}
-use mathlib.Core.Bool.{true, false, not, _&&_}
+use mathlib.Core.Bool.{true, false, not, _&&_, _||_}
 use mathlib.Core.List.{List}
 use Prim.Native.Nat.{ℕ, zero, suc, _+_, _-_, _%_, _≤_, _<_}
 use native.Mathlib.Decide.{ℕ-discrete}
 use native.Mathlib.Nat.{mod-lt}
 use native.Mathlib.Omega.{arith}
 use lib.Dec.{ltb}
-use lib.IntN.{ℤ}
-use lib.ListN.{length}
+use lib.ListN.{length, length-map}
 use Rattle.wire.proofs.LittleEndian.{load-agree, load-store-below, load-store-above, load-store-lt}
+use Rattle.model.specs.Base.{modulus}
 use Rattle.model.specs.Buffers.{ports, ringsLength, areRings, areGrants, pagesOf}
-use Rattle.model.specs.Calls.{Call, Open, Close, Turn, Complete, TurnEffect, CompleteEffect, Effect, Event}
-use Rattle.model.specs.Complete.{completed}
+use Rattle.model.specs.Calls.{Call, Open, Close, Turn, Complete, TurnEffect, CompleteAnswer, noneDone, allDone, CompleteEffect, Effect, Event, mostCompletions}
+use Rattle.model.specs.Complete.{completionsIn, areEntries, responsesFor, completed}
 use Rattle.model.specs.Port.{View, isClosed, isOpen, after}
 use Rattle.model.specs.Ring.{Request, slotBytes, reqEvent, setReqEvent, rspEvent, setRspEvent}
-use Rattle.model.specs.Rules.{noPort, dueTurn, namesNone, refusedCompletion, dueComplete, effectDue, due}
-use Rattle.model.specs.Turn.{ringAt, hasWork, lookedAt, passedOver, armedPort, armed, idle, responded, notifies, settled, overran, servedBy, turned}
-use Rattle.model.specs.declared.Completed.{Completed}
-use Rattle.model.specs.declared.Pair.{Pair}
+use Rattle.model.specs.Rules.{noPort, dueTurn, anyNamesNone, namedTwice, refusedCompletion, dueComplete, effectDue, due}
+use Rattle.model.specs.Turn.{ringAt, hasWork, lookedAt, passedOver, armedPort, armed, idle, ResponseDue, respondedAll, notifiesAll, notifies, settled, overran, servedBy, turned}
 use Rattle.model.specs.declared.Pending.{Pending}
 use Rattle.model.specs.declared.PortId.{PortId}
-use Rattle.model.specs.declared.Serial.{Serial}
 use Rattle.model.specs.declared.State.{State}
-use Rattle.model.specs.declared.Status.{Status}
-use Rattle.model.specs.declared.TagId.{TagId}
 use Rattle.model.specs.declared.Turned.{Turned}
 use Rattle.model.specs.declared.Verdict.{Verdict}
 use Rattle.model.proofs.Base.{by-cond, clash}
-use Rattle.model.proofs.Page.{length-pagesOf, pagesOf-setPages, pagesOf-other, getD-responded}
+use Rattle.model.proofs.Page.{length-pagesOf, pagesOf-setPages, pagesOf-other}
+use Rattle.model.proofs.Responses.{getD-all}
 use Rattle.model.proofs.Ring.{fits}
 use Rattle.frontend.specs.Guest.{guestPage, guestRing, putPage}
 use Rattle.frontend.proofs.Pages.{slot-header}
@@ -63,12 +59,12 @@ module _ (page : List ℕ) (sized : length page ≡ guestPage) where
   rsp-put i slot long =
       load-agree 4 (putPage page i slot) page 12 (λ q l. put-outside page sized i slot long (12 + q) (omega arith) (λ u v. omega (arith, slot-header i)))
 
-  -- a response leaves req_event
-  pub req-responded : (i : ℕ) (q : Pair) (z : Status) → reqEvent (responded guestRing page i q z) ≡ reqEvent page
+  -- responses leave req_event
+  pub req-responded : (n : ℕ) (xs : List ResponseDue) → reqEvent (respondedAll guestRing page (n % modulus) xs) ≡ reqEvent page
   unfolding reqEvent
-  req-responded i q z =
-      load-agree 4 (responded guestRing page i q z) page 4
-      (λ m l. getD-responded guestRing guest-fits page i q z (guest-bytes page sized) (4 + m) (λ u v. omega arith) (λ u v. omega (arith, slot-header i)))
+  req-responded n xs =
+      load-agree 4 (respondedAll guestRing page (n % modulus) xs) page 4
+      (λ m l. getD-all guestRing guest-fits (4 + m) (λ u v. omega arith) xs n page (guest-bytes page sized) (λ i r u v. omega (arith, slot-header (n + i))))
 
 -- ---- an idle turn
 
@@ -148,17 +144,17 @@ TurnTold v rings (Turned.Refused n) = Unit
 TurnTold v rings Turned.Idle = Unit
 TurnTold v rings (Turned.Overrun p) = Unit
 TurnTold v rings (Turned.Started p t s plan) = Unit
-TurnTold v rings (Turned.Answered p n z y) = y ≡ notifies v rings (p .0)
+TurnTold v rings (Turned.Answered p n z y) = y ≡ notifiesAll v rings (p .0) 1
 
-abbrev pub CompleteTold : View → List ℕ → PortId → Completed → Type 0
-CompleteTold v rings p (Completed.Refused n) = Unit
-CompleteTold v rings p (Completed.Done q z y) = (q .0 ≡ p .0) × (y ≡ notifies v rings (p .0))
+abbrev pub CompleteTold : View → List ℕ → PortId → CompleteAnswer → Type 0
+CompleteTold v rings p (noneDone n) = Unit
+CompleteTold v rings p (allDone q zs y) = (q .0 ≡ p .0) × (y ≡ notifiesAll v rings (p .0) (length zs))
 
 abbrev TT : View → List ℕ → TurnEffect → Type 0
 TT v rings e = TurnTold v rings (e .answer)
 
 settled-told : (v : View) (rings : List ℕ) (k : ℕ) (r : Request) (x : Verdict) → TT v rings (settled v rings k r x)
-unfolding settled
+unfolding settled notifies
 settled-told v rings k r (Verdict.Refused n z) = refl
 settled-told v rings k r (Verdict.Start plan) = tt
 
@@ -177,26 +173,30 @@ turn-told v rings grants words =
 abbrev CT : View → List ℕ → PortId → CompleteEffect → Type 0
 CT v rings p e = CompleteTold v rings p (e .answer)
 
-complete-told : (v : View) (rings : List ℕ) (p : PortId) (t : TagId) (s : Serial) (result : ℤ) → CT v rings p (dueComplete v rings p t s result)
+complete-told : (v : View) (rings : List ℕ) (p : PortId) (entries : List ℕ) → CT v rings p (dueComplete v rings p entries)
 unfolding dueComplete refusedCompletion completed
-complete-told v rings p t s result =
-    by-cond (CT v rings p) (not (areRings rings)) _ _ (λ _. tt) (λ _.
+complete-told v rings p entries =
+    let cs = completionsIn entries in
+    let xs = responsesFor (v .tag (p .0)) cs in
+    by-cond (CT v rings p) (not (areRings rings && areEntries entries)) _ _ (λ _. tt) (λ _.
     by-cond (CT v rings p) (noPort p) _ _ (λ _. tt) (λ _.
     by-cond (CT v rings p) (isClosed (v .state (p .0))) _ _ (λ _. tt) (λ _.
-    by-cond (CT v rings p) (namesNone (ringAt v (p .0)) t s (v .tag (p .0) (t .0))) _ _ (λ _. tt) (λ _. (refl, refl)))))
+    by-cond (CT v rings p) (ltb mostCompletions (length cs)) _ _ (λ _. tt) (λ _.
+    by-cond (CT v rings p) (anyNamesNone (ringAt v (p .0)) (v .tag (p .0)) cs || namedTwice cs) _ _ (λ _. tt) (λ _.
+    (refl, ap (notifiesAll v rings (p .0)) (sym (length-map xs (λ (x : ResponseDue). x .status)))))))))
 
 abbrev pub Tells : View → (c : Call) → Effect c → Type 0
 Tells v (Open p sheet) e = Unit
 Tells v (Close p) e = Unit
 Tells v (Turn rings grants words) e = TurnTold v rings (e .answer)
-Tells v (Complete rings p t s result) e = CompleteTold v rings p (e .answer)
+Tells v (Complete rings p entries) e = CompleteTold v rings p (e .answer)
 
 tells : (v : View) (c : Call) → Tells v c (effectDue v c)
 unfolding effectDue
 tells v (Open p sheet) = tt
 tells v (Close p) = tt
 tells v (Turn rings grants words) = turn-told v rings grants words
-tells v (Complete rings p t s result) = complete-told v rings p t s result
+tells v (Complete rings p entries) = complete-told v rings p entries
 
 -- of an event that is as due
 pub tells-due : (v : View) (e : Event) → e ≡ due v (e .call) → Tells v (e .call) (e .effect)

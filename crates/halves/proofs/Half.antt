@@ -10,14 +10,13 @@ use lib.Seq.{take-suc, take-append-le, getD-at}
 use Rattle.model.specs.Base.{modulus}
 use Rattle.model.specs.Buffers.{pagesOf}
 use Rattle.model.specs.Demand.{All, count}
-use Rattle.model.specs.History.{Named, Response, Taken, Book, ringIn, asked, said, inState, withLines, pairsOf, pairsSaid}
+use Rattle.model.specs.History.{Named, Response, Taken, Book, ringIn, asked, inState, withLines, pairsOf, pairsSaid}
 use Rattle.model.specs.Port.{distance, after}
 use Rattle.model.specs.Ring.{Ring, Request, ringOf, slotAt, slotOf, requestOf, statusBits, responsePair}
 use Rattle.model.specs.Turn.{responded}
 use Rattle.model.specs.declared.Pair.{Pair}
 use Rattle.model.specs.declared.Params.{Params}
 use Rattle.model.specs.declared.State.{State}
-use Rattle.model.specs.declared.Status.{Status}
 use Rattle.model.proofs.Conservation.{Sound, numbers}
 use Rattle.model.proofs.Order.{one, count-nil, count-cons, count-all, isPair-self}
 use Rattle.asking.specs.Slot.{slotFor}
@@ -149,20 +148,19 @@ module _ {g : Guest} {page : List ℕ} {put : List Request} {collected : List Ga
         collects = h .collects;
       }
 
-  -- a response is given
-  pub half-respond : (k : ℕ) (left : List ℕ) (q : Pair) (z : Status) (l : List Taken) → length l ≡ length (b .taken) → pairsOf l ≡ pairsOf (b .taken)
-      → pagesOf guestRing left k ≡ responded guestRing page (length (b .answered) % modulus) q z → length (b .answered) < length (b .taken)
-      → Half g (pagesOf guestRing left k) put collected (withLines l (said k left z b ∷ b .answered) b) slots
-  unfolding said
-  half-respond k left q z l long pairs here low =
+  -- A response is given: it stands in the page, and the books have its pair as it stands there.
+  pub half-respond : (new : List ℕ) (a : Response) (q : Pair) (l : List Taken) → length l ≡ length (b .taken) → pairsOf l ≡ pairsOf (b .taken)
+      → new ≡ responded guestRing page (length (b .answered) % modulus) q (a .told) → a .pair ≡ responsePair new (slotAt guestRing (length (b .answered)))
+      → length (b .answered) < length (b .taken) → Half g new put collected (withLines l (a ∷ b .answered) b) slots
+  half-respond new a q l long pairs here reads low =
       let A = length (b .answered) in
-      let new = withLines l (said k left z b ∷ b .answered) b in
-      let x = toGather (said k left z b) in
-      let same : x ≡ record { pair = responsePair (pagesOf guestRing left k) (slotAt guestRing A); status = statusBits z } = rw (h .ring) in
-      let more : givenIn new ≡ givenIn b ++ (x ∷ []) = reverse-cons x (map toGather (b .answered)) in
+      let c = withLines l (a ∷ b .answered) b in
+      let x = toGather a in
+      let same : x ≡ record { pair = responsePair new (slotAt guestRing A); status = statusBits (a .told) } = λ i. record { pair = reads i; status = statusBits (a .told) } in
+      let more : givenIn c ≡ givenIn b ++ (x ∷ []) = reverse-cons x (map toGather (b .answered)) in
       let page' =
-      page-responded (h .holds) (h .unread) low (h .behind) (omega (arith, put-count (h .mine), h .mine .few)) q z (pagesOf guestRing left k) here
-      (λ i. getD (givenIn new) i none)
+      page-responded (h .holds) (h .unread) low (h .behind) (omega (arith, put-count (h .mine), h .mine .few)) q (a .told) new here
+      (λ i. getD (givenIn c) i none)
       (λ i m. ap (λ (s : List Gathered). getD s i none) more ∙ List·getD-append (givenIn b) (x ∷ []) none i (omega (arith, given-length b)))
       (ap (λ (s : List Gathered). getD s A none) more ∙ getD-at (givenIn b) x [] none A (given-length b) ∙ same) in
       record {

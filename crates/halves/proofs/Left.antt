@@ -1,36 +1,33 @@
--- What a turn and a completion leave of the rings, by their answers, and what an idle turn and another port's response leave of one port's page. Assumes
+-- What a turn and a completion leave of the rings, by their answers, and what an idle turn and another port's responses leave of one port's page. Assumes
 -- nothing.
-use mathlib.Core.Path.{_≡_, refl, sym, ap, _∙_, subst}
+use mathlib.Core.Path.{_≡_, refl, sym, _∙_, subst}
 use mathlib.Core.Logic.{_≢_}
-use mathlib.Core.Bool.{not, _&&_}
-use mathlib.Core.List.{List}
+use mathlib.Core.Bool.{not, _&&_, _||_}
+use mathlib.Core.List.{List, [], _∷_}
 use Prim.Native.Nat.{ℕ, zero, suc, _≤_, _<_}
 use native.Mathlib.Decide.{ℕ-discrete}
 use native.Mathlib.Omega.{arith}
 use lib.Dec.{ltb}
-use lib.IntN.{ℤ}
 use lib.ListN.{length}
 use Rattle.model.specs.Buffers.{ports, ringsLength, areRings, areGrants, pagesOf, setPages}
-use Rattle.model.specs.Calls.{Call, Open, Close, Turn, Complete, TurnEffect, CompleteEffect, Effect, Event}
-use Rattle.model.specs.Complete.{completed}
+use Rattle.model.specs.Calls.{Call, Open, Close, Turn, Complete, TurnEffect, CompleteAnswer, noneDone, allDone, CompleteEffect, Effect, Event, mostCompletions}
+use Rattle.model.specs.Complete.{completionsIn, areEntries, completed}
+use Rattle.model.specs.History.{standing, book, viewAt}
 use Rattle.model.specs.Port.{View, isClosed, after}
 use Rattle.model.specs.Ring.{setReqEvent, ringOf}
-use Rattle.model.specs.Rules.{noPort, dueTurn, namesNone, tagOf, refusedCompletion, dueComplete, effectDue, due}
-use Rattle.model.specs.Turn.{ringAt, pendingAt, passedOver, armedPort, armed, idle, respondedAt, requestAt, settled, overran, servedBy, turned}
-use Rattle.model.specs.declared.Completed.{Completed}
-use Rattle.model.specs.declared.Pair.{Pair}
+use Rattle.model.specs.Rules.{noPort, dueTurn, anyNamesNone, namedTwice, refusedCompletion, dueComplete, effectDue, due}
+use Rattle.model.specs.Turn.{ringAt, pendingAt, passedOver, armedPort, armed, idle, ResponseDue, dueTo, respondedAllAt, respondedAt, requestAt, settled, overran, servedBy, turned}
 use Rattle.model.specs.declared.Params.{Params}
 use Rattle.model.specs.declared.Pending.{Pending}
 use Rattle.model.specs.declared.PortId.{PortId}
-use Rattle.model.specs.declared.Serial.{Serial}
 use Rattle.model.specs.declared.State.{State}
 use Rattle.model.specs.declared.Status.{Status}
-use Rattle.model.specs.declared.TagId.{TagId}
 use Rattle.model.specs.declared.Turned.{Turned}
 use Rattle.model.specs.declared.Verdict.{Verdict}
 use Rattle.model.proofs.Base.{by-cond}
-use Rattle.model.proofs.DueFacts.{AnsweredNow, Finished}
-use Rattle.model.proofs.Page.{length-pagesOf, pagesOf-setPages, length-setPages, pagesOf-other, req-event-at, length-responded}
+use Rattle.model.proofs.DueFacts.{AnsweredNow}
+use Rattle.model.proofs.Page.{length-pagesOf, pagesOf-setPages, length-setPages, pagesOf-other, req-event-at}
+use Rattle.model.proofs.Responses.{length-all}
 use Rattle.model.proofs.Ring.{fits, header-room}
 use Rattle.frontend.specs.Guest.{guestRing}
 use Rattle.halves.proofs.Page.{guest-fits, Quiet, quiet-refl, quiet-trans, quiet-reqEvent}
@@ -45,9 +42,9 @@ TurnLeft v rings left (Turned.Overrun p) = (left ≡ rings) × (pendingAt v ring
 TurnLeft v rings left (Turned.Started p t s plan) = left ≡ rings
 TurnLeft v rings left (Turned.Answered p n z y) = Unit
 
-abbrev pub CompleteLeft : List ℕ → List ℕ → Completed → Type 0
-CompleteLeft rings left (Completed.Refused n) = left ≡ rings
-CompleteLeft rings left (Completed.Done p z y) = Unit
+abbrev pub CompleteLeft : List ℕ → List ℕ → CompleteAnswer → Type 0
+CompleteLeft rings left (noneDone n) = left ≡ rings
+CompleteLeft rings left (allDone p zs y) = Unit
 
 abbrev TL : View → List ℕ → TurnEffect → Type 0
 TL v rings e = TurnLeft v rings (e .rings) (e .answer)
@@ -72,41 +69,38 @@ turn-left v rings grants words =
 abbrev CL : List ℕ → CompleteEffect → Type 0
 CL rings e = CompleteLeft rings (e .rings) (e .answer)
 
-complete-left : (v : View) (rings : List ℕ) (p : PortId) (t : TagId) (s : Serial) (result : ℤ) → CL rings (dueComplete v rings p t s result)
+complete-left : (v : View) (rings : List ℕ) (p : PortId) (entries : List ℕ) → CL rings (dueComplete v rings p entries)
 unfolding dueComplete refusedCompletion completed
-complete-left v rings p t s result =
-    by-cond (CL rings) (not (areRings rings)) _ _ (λ _. refl) (λ _.
+complete-left v rings p entries =
+    let cs = completionsIn entries in
+    by-cond (CL rings) (not (areRings rings && areEntries entries)) _ _ (λ _. refl) (λ _.
     by-cond (CL rings) (noPort p) _ _ (λ _. refl) (λ _.
     by-cond (CL rings) (isClosed (v .state (p .0))) _ _ (λ _. refl) (λ _.
-    by-cond (CL rings) (namesNone (ringAt v (p .0)) t s (v .tag (p .0) (t .0))) _ _ (λ _. refl) (λ _. tt))))
+    by-cond (CL rings) (ltb mostCompletions (length cs)) _ _ (λ _. refl) (λ _.
+    by-cond (CL rings) (anyNamesNone (ringAt v (p .0)) (v .tag (p .0)) cs || namedTwice cs) _ _ (λ _. refl) (λ _. tt)))))
 
 abbrev pub Left : View → (c : Call) → Effect c → Type 0
 Left v (Open p sheet) e = Unit
 Left v (Close p) e = Unit
 Left v (Turn rings grants words) e = TurnLeft v rings (e .rings) (e .answer)
-Left v (Complete rings p t s result) e = CompleteLeft rings (e .rings) (e .answer)
+Left v (Complete rings p entries) e = CompleteLeft rings (e .rings) (e .answer)
 
 left-facts : (v : View) (c : Call) → Left v c (effectDue v c)
 unfolding effectDue
 left-facts v (Open p sheet) = tt
 left-facts v (Close p) = tt
 left-facts v (Turn rings grants words) = turn-left v rings grants words
-left-facts v (Complete rings p t s result) = complete-left v rings p t s result
+left-facts v (Complete rings p entries) = complete-left v rings p entries
 
 -- of an event that is as due
 pub left-due : (v : View) (e : Event) → e ≡ due v (e .call) → Left v (e .call) (e .effect)
 left-due v e q = subst (λ (x : Event). Left v (x .call) (x .effect)) (sym q) (left-facts v (e .call))
 
--- a response as the facts of an answer at once have it, and those of a completion
+-- the one response of an answer at once, as its facts have it
 pub answered-left : (v : View) (rings left : List ℕ) (k n : ℕ) (z : Status) → AnsweredNow v rings left k n z
-    → left ≡ respondedAt v rings k (requestAt v rings k .pair) z
-unfolding settled
+    → left ≡ respondedAllAt v rings k (dueTo (requestAt v rings k .pair) z ∷ [])
+unfolding settled respondedAt
 answered-left v rings left k n z f = f .written
-
-pub finished-left : (v : View) (rings left : List ℕ) (k : ℕ) (t : TagId) (s : Serial) (z : Status) → Finished v rings left k t s z
-    → left ≡ respondedAt v rings k (tagOf (v .tag k (t .0)) .pair) z
-unfolding completed
-finished-left v rings left k t s z f = f .written ∙ ap (λ (x : Status). respondedAt v rings k (tagOf (v .tag k (t .0)) .pair) x) (sym (f .status))
 
 -- ---- one port's page
 
@@ -118,16 +112,17 @@ armed-alike p left j c long there =
     sym (req-event-at guestRing (header-room guestRing guest-fits) (guest-fits .within) left j long there (after c))
     ∙ req-event-at (ringOf p) (header-room (ringOf p) f) (f .within) left j long there (after c)
 
-module _ (v : View) (rings : List ℕ) (k : ℕ) (small : k < ports) (sized : length rings ≡ ringsLength) where
-  -- another port's response leaves it
-  pub responded-other : (j : ℕ) (q : Pair) (z : Status) → j < ports → k ≢ j → pagesOf guestRing (respondedAt v rings j q z) k ≡ pagesOf guestRing rings k
-  unfolding respondedAt
-  responded-other j q z there ne =
-      let g = ringAt v j in
-      let f = fits (v .params j) in
-      let long = length-responded g f (pagesOf g rings j) (v .produced j) q z (length-pagesOf g f rings j sized there) in
-      pagesOf-other g f rings j sized there _ long guestRing guest-fits k small ne
+-- another port's responses leave it
+pub responded-other : (h : List Event) (rings : List ℕ) (k j : ℕ) → k < ports → length rings ≡ ringsLength → (xs : List ResponseDue) → j < ports → k ≢ j
+    → pagesOf guestRing (respondedAllAt (viewAt h) rings j xs) k ≡ pagesOf guestRing rings k
+unfolding respondedAllAt viewAt
+responded-other h rings k j small sized xs there ne =
+    let g = ringAt (viewAt h) j in
+    let f = fits (viewAt h .params j) in
+    let long = length-all g f xs (length (standing (book j h) .answered)) (pagesOf g rings j) (length-pagesOf g f rings j sized there) in
+    pagesOf-other g f rings j sized there _ long guestRing guest-fits k small ne
 
+module _ (v : View) (rings : List ℕ) (k : ℕ) (small : k < ports) (sized : length rings ≡ ringsLength) where
   -- rings in which the port's page has other events
   pub record Armed (left : List ℕ) : Type 0 where
     pub long : length left ≡ ringsLength

@@ -2,6 +2,7 @@ pub mod Page
 pub mod Slot
 pub mod Lists
 pub mod Half
+pub mod Finishings
 pub mod Left
 pub mod Steps
 pub mod Before

@@ -6,13 +6,13 @@ use mathlib.Core.List.{List, [], _∷_, _++_, map, append-nil}
 use Prim.Native.Nat.{ℕ, _<_}
 use native.Mathlib.Omega.{arith}
 use lib.Dec.{eqb, ltb, leb}
-use lib.IntN.{ℤ}
 use lib.ListN.{length, getD, take, length-map}
 use lib.Seq.{length-take-le}
 use borrow.Author.Tests.{ltb-true, leb-false, eqb-false, eq-eqb, lt-leb, not-true}
 use Rattle.model.specs.Backend.{viewOf, eventOn, Backend}
 use Rattle.model.specs.Buffers.{ports, ringsLength, pagesOf, setPages}
 use Rattle.model.specs.Calls.{Open, Close, Event}
+use Rattle.model.specs.Complete.{completionsIn}
 use Rattle.model.specs.Deeds.{paramsIn}
 use Rattle.model.specs.Demand.{All, Reordered, IsBytes}
 use Rattle.model.specs.History.{Book, book, viewAt}
@@ -23,9 +23,7 @@ use Rattle.model.specs.Rules.{openedBy, dueOpen, effectDue}
 use Rattle.model.specs.Turn.{portId, requestAt}
 use Rattle.model.specs.declared.PortId.{PortId}
 use Rattle.model.specs.declared.Reply.{Reply}
-use Rattle.model.specs.declared.Serial.{Serial}
 use Rattle.model.specs.declared.Sheet.{Sheet}
-use Rattle.model.specs.declared.TagId.{TagId}
 use Rattle.model.specs.declared.Turned.{Turned}
 use Rattle.model.proofs.Base.{by-cond, clash}
 use Rattle.model.proofs.Conservation.{Sound}
@@ -159,19 +157,19 @@ module _ (k : ℕ) (small : k < ports) (w : System) (h : Kept k w) where
           half = after-turn k small (w .events) (h .half) sound-here lent lent-sized lent-here left (x .effect .answer) f l;
         }
 
-    complete-kept : (p : PortId) (t : TagId) (s : Serial) (z : ℤ) → Kept k (step k w (completing others p t s z))
+    complete-kept : (p : PortId) (entries : List ℕ) → Kept k (step k w (completing others p entries))
     unfolding step book slotsTaken
-    complete-kept p t s z =
+    complete-kept p entries =
         let v = viewAt (w .events) in
-        let x = eventOn (w .backend) (completeOn k (w .page) others p t s z) in
-        let n = told-step (w .backend) (w .events) (completeOn k (w .page) others p t s z) lent-bytes (h .told) in
+        let x = eventOn (w .backend) (completeOn k (w .page) others p entries) in
+        let n = told-step (w .backend) (w .events) (completeOn k (w .page) others p entries) lent-bytes (h .told) in
         record {
           told = n;
           clean = (tt, h .clean);
           unrefused = h .unrefused;
           half =
-              after-complete k small (w .events) (h .half) sound-here lent lent-sized lent-here (x .effect .rings) p t s (x .effect .answer)
-              (facts-due v x (n .asDue .0)) (left-due v x (n .asDue .0)) (sound k (x ∷ w .events) (n .asDue) (n .bytes));
+              after-complete k small (w .events) (h .half) sound-here lent lent-sized lent-here (x .effect .rings) p (completionsIn entries) (x .effect .answer)
+              (facts-due v x (n .asDue .0)) (left-due v x (n .asDue .0));
         }
 
   pub kept-step : (s : Step) → Lends k s → Kept k (step k w s)
@@ -179,7 +177,7 @@ module _ (k : ℕ) (small : k < ports) (w : System) (h : Kept k w) where
   kept-step (putting r) y = record { told = h .told; clean = h .clean; unrefused = h .unrefused; half = put-kept r y }
   kept-step collecting y = record { told = h .told; clean = h .clean; unrefused = rw (h .unrefused) (collect-kept .1); half = collect-kept .0 }
   kept-step (turning others grants words) y = turn-kept others (y .0) (y .1) grants words
-  kept-step (completing others p t s z) y = complete-kept others (y .0) (y .1) p t s z
+  kept-step (completing others p entries) y = complete-kept others (y .0) (y .1) p entries
   kept-step (openingOther p sheet) y = record {
     told = told-step (w .backend) (w .events) (Open p sheet) tt (h .told);
     clean = (tt, h .clean);

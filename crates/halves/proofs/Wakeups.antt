@@ -8,32 +8,29 @@ use Prim.Native.Nat.{ℕ, _+_, _-_, _%_, _<_}
 use native.Mathlib.Decide.{ℕ-discrete}
 use native.Mathlib.Omega.{arith}
 use lib.Dec.{eqb, ltb, leb}
-use lib.ListN.{length}
-use borrow.Author.Tests.{eqb-true, eqb-false, eq-eqb, ne-eqb, not-false}
+use lib.ListN.{length, length-map}
+use borrow.Author.Tests.{eqb-true, eqb-false, eq-eqb, ne-eqb, lt-ltb, not-false}
 use Rattle.model.specs.Backend.{eventOn}
 use Rattle.model.specs.Base.{modulus}
 use Rattle.model.specs.Buffers.{ports, ringsLength, pagesOf, setPages}
-use Rattle.model.specs.Calls.{Open, Close}
-use Rattle.model.specs.Deeds.{Deed, closing, answering, finishing, portOf, openDeeds, closeDeeds, turnDeeds, completeDeeds}
+use Rattle.model.specs.Calls.{Open, Close, CompleteAnswer, noneDone, allDone}
+use Rattle.model.specs.Complete.{Completion, completionsIn, responseFor, responsesFor}
+use Rattle.model.specs.Deeds.{closing, answering, openDeeds, closeDeeds, turnDeeds, finishings, completeDeeds}
 use Rattle.model.specs.Demand.{All, IsBytes}
-use Rattle.model.specs.History.{Book, said, entry, posts, book, unfinished, viewAt}
-use Rattle.model.specs.Port.{View, isClosed, isOpen, isWork, after}
+use Rattle.model.specs.History.{Book, entry, posts, book, unfinished, viewAt}
+use Rattle.model.specs.Port.{View, isClosed, isOpen, isWork, distance, further, after}
 use Rattle.model.specs.Ring.{Request, Ring, reqEvent, rspEvent}
-use Rattle.model.specs.Turn.{pagesAt, pendingAt, hasWork, lookedAt, armed, respondedAt, notifies}
-use Rattle.model.specs.declared.Completed.{Completed}
-use Rattle.model.specs.declared.Pair.{Pair}
+use Rattle.model.specs.Turn.{pagesAt, pendingAt, hasWork, lookedAt, armed, ResponseDue, respondedAllAt, tells, notifiesAll}
 use Rattle.model.specs.declared.PortId.{PortId}
 use Rattle.model.specs.declared.Reply.{Reply}
-use Rattle.model.specs.declared.Serial.{Serial}
 use Rattle.model.specs.declared.Status.{Status}
-use Rattle.model.specs.declared.TagId.{TagId}
 use Rattle.model.specs.declared.Turned.{Turned}
 use Rattle.model.proofs.Base.{by-cond, clash, or-left, or-right}
 use Rattle.model.proofs.DueFacts.{Chosen, chosen-lt, Finished, TurnFacts, CompleteFacts, facts-due}
 use Rattle.model.proofs.Fairness.{work-is}
-use Rattle.model.proofs.Ledger.{length-answerTo}
 use Rattle.model.proofs.Permitted.{open-not-closed, view-ring, view-consumed, view-produced, view-state, chosen-open}
 use Rattle.model.proofs.Refinement.{told-step}
+use Rattle.model.proofs.Responses.{none-responded}
 use Rattle.asking.specs.Request.{isBad}
 use Rattle.asking.specs.Slot.{slotFor}
 use Rattle.frontend.specs.Guest.{guestPage, guestRing, isPage, mostOutstanding, has, sameId, samePair, PutEffect, putDue, puts, ahead, nextPair, CollectEffect, collectDue, collects, waits}
@@ -42,7 +39,8 @@ use Rattle.halves.specs.System.{System, Step, putting, collecting, turni
 use Rattle.halves.specs.Wakeups.{Waits, nobodyWaits, afterPut, afterCollect, afterTurn, afterCompletion, waitsAfter, Rests, RestsAfter, WakeupTheorem}
 use Rattle.halves.proofs.Slot.{slot-length}
 use Rattle.halves.proofs.Half.{ahead-is}
-use Rattle.halves.proofs.Left.{TurnLeft, CompleteLeft, left-due, answered-left, finished-left, responded-other}
+use Rattle.halves.proofs.Finishings.{posts-others, posts-steady}
+use Rattle.halves.proofs.Left.{TurnLeft, CompleteLeft, left-due, answered-left, responded-other}
 use Rattle.halves.proofs.Events.{TurnTold, CompleteTold, rsp-set, req-left, rsp-put, req-responded, rsp-armed, req-armed, idle-page, idle-all, tells-due}
 use Rattle.halves.proofs.Steps.{pending-is, responded-here}
 use Rattle.halves.proofs.Before.{before-all}
@@ -62,6 +60,16 @@ ArmedIn k w z = Armed (w .page) (length (w .put)) (length (w .collected)) (book 
 -- the next index by its remainder
 after-mod : (n : ℕ) → after (n % modulus) ≡ (n + 1) % modulus
 after-mod n = omega arith
+
+-- the index after the last is among those of the next responses, however many there are
+tells-next : (n m : ℕ) → 0 < m → m < modulus → tells (n % modulus) m ((n + 1) % modulus) ≡ true
+unfolding tells distance
+tells-next n m some few =
+    let old = n % modulus in
+    let new = further old m in
+    let all : distance new old ≡ m = omega arith in
+    let rest : distance new ((n + 1) % modulus) + 1 ≡ m = omega arith in
+    lt-ltb (distance new ((n + 1) % modulus)) (distance new old) (omega (arith, all, rest))
 
 -- ---- the guest's steps
 
@@ -189,32 +197,43 @@ module _ (k : ℕ) (small : k < ports) (w : System) (h : Kept k w) (z : Waits) (
           );
         }
 
-    -- a guest that waits untold has armed for this very response
-    response-tells : isClosed (b .state) ≡ false → z .guest ≡ true → z .guestTold ≡ false → notifies v rings k ≡ false → ⊥
-    unfolding notifies
-    response-tells o x y e =
+    -- a guest that waits untold has armed for the first of these responses
+    response-tells : (n : ℕ) → 0 < n → n < modulus → isClosed (b .state) ≡ false → z .guest ≡ true → z .guestTold ≡ false → notifiesAll v rings k n ≡ false → ⊥
+    unfolding notifiesAll
+    response-tells n some few o x y e =
         let c = a .guest x y in
-        let produced : after (v .produced k) ≡ (length (w .collected) + 1) % modulus =
-        ap after (view-produced k (w .events) o) ∙ after-mod (length (b .answered)) ∙ ap (λ (n : ℕ). (n + 1) % modulus) (sym (c .1)) in
         let same : pagesAt v rings k ≡ w .page = ap (λ (g : Ring). pagesOf g rings k) (view-ring k (w .events) o ∙ h .half .ring) ∙ here in
-        eqb-false _ _ e (ap rspEvent same ∙ c .0 ∙ sym produced)
+        let told : tells (v .produced k) n (rspEvent (pagesAt v rings k)) ≡ true =
+        rw (view-produced k (w .events) o, same, c .0, c .1) (tells-next (length (b .answered)) n some few) in
+        clash told e
 
-    -- so after a deed with a response it was told, or the deed was another port's
-    guest-armed : (left : List ℕ) (d : Deed) (y : Bool) → y ≡ notifies v rings (portOf d) → (k ≡ portOf d → isClosed (b .state) ≡ false)
-        → (k ≢ portOf d → pagesOf guestRing left k ≡ w .page) → z .guest ≡ true → z .guestTold || eqb k (portOf d) && y ≡ false
-        → (rspEvent (pagesOf guestRing left k) ≡ (length (w .collected) + 1) % modulus) × (length (w .collected) ≡ length (posts k (d ∷ []) b .answered))
-    guest-armed left d y told own other x t =
-        let j = portOf d in
+    -- the page is as it was, and as much is answered
+    abbrev Still : List ℕ → Book → Type 0
+    Still left c = (pagesOf guestRing left k ≡ w .page) × (length (c .answered) ≡ length (b .answered))
+
+    -- so after n responses of port j it was told, or they were another port's, or none
+    guest-armed : (left : List ℕ) (j n : ℕ) (c : Book) (y : Bool) → y ≡ notifiesAll v rings j n → n < modulus → (k ≡ j → isClosed (b .state) ≡ false)
+        → (k ≢ j → Still left c) → (n ≡ 0 → Still left c) → z .guest ≡ true → z .guestTold || eqb k j && y ≡ false
+        → (rspEvent (pagesOf guestRing left k) ≡ (length (w .collected) + 1) % modulus) × (length (w .collected) ≡ length (c .answered))
+    guest-armed left j n c y told few own other none x t =
         let untold : z .guestTold ≡ false = or-left (z .guestTold) (eqb k j && y) t in
         let quiet : eqb k j && y ≡ false = or-right (z .guestTold) (eqb k j && y) t in
+        let still : Still left c → (rspEvent (pagesOf guestRing left k) ≡ (length (w .collected) + 1) % modulus) × (length (w .collected) ≡ length (c .answered)) =
+        λ s. (ap rspEvent (s .0) ∙ a .guest x untold .0, a .guest x untold .1 ∙ sym (s .1)) in
         elim (ℕ-discrete k j) [
-          | yes e ↦ absurd (response-tells (own e) x untold (ap (λ (i : ℕ). notifies v rings i) e ∙ sym told ∙ (rw (eq-eqb k j e) at quiet)))
-          | no e ↦ rw (ne-eqb k j e) (ap rspEvent (other e) ∙ a .guest x untold .0, a .guest x untold .1)
+          | yes e ↦
+              elim (ℕ-discrete n 0) [
+                | yes i ↦ still (none i)
+                | no i ↦
+                    absurd (response-tells n (omega arith) few (own e) x untold
+                    (ap (λ (u : ℕ). notifiesAll v rings u n) e ∙ sym told ∙ (rw (eq-eqb k j e) at quiet)))
+              ]
+          | no e ↦ still (other e)
         ]
 
-    -- another port's response
-    other-page : (left : List ℕ) (j : ℕ) (q : Pair) (s : Status) → j < ports → k ≢ j → left ≡ respondedAt v rings j q s → pagesOf guestRing left k ≡ w .page
-    other-page left j q s there ne e = ap (λ (x : List ℕ). pagesOf guestRing x k) e ∙ responded-other v rings k small whole j q s there ne ∙ here
+    -- another port's responses
+    other-page : (left : List ℕ) (j : ℕ) (xs : List ResponseDue) → j < ports → k ≢ j → left ≡ respondedAllAt v rings j xs → pagesOf guestRing left k ≡ w .page
+    other-page left j xs there ne e = ap (λ (x : List ℕ). pagesOf guestRing x k) e ∙ responded-other (w .events) rings k j small whole xs there ne ∙ here
 
     turn-armed : (left : List ℕ) (x : Turned) → TurnFacts v rings left x → TurnLeft v rings left x → TurnTold v rings x
         → Armed (pagesOf guestRing left k) (length (w .put)) (length (w .collected)) (posts k (turnDeeds rings left x) b) (afterTurn k z x)
@@ -228,21 +247,26 @@ module _ (k : ℕ) (small : k < ports) (w : System) (h : Kept k w) (z : Waits) (
         (by-cond (λ (c : Book). length (c .answered) ≡ length (b .answered)) (eqb k (p .0)) _ _ (λ _. refl) (λ _. refl))
     turn-armed left (Turned.Answered p n s y) f e t = record {
       guest =
-          guest-armed left (answering (p .0) rings left s) y t
+          guest-armed left (p .0) 1 (posts k (answering (p .0) rings left s ∷ []) b) y t (omega arith)
           (λ q. chosen-open k (w .events) (sound-here k small w h) rings (subst (λ (j : ℕ). Chosen v rings j) (sym q) (f .choice)))
-          (λ ne. other-page left (p .0) _ s (chosen-lt (f .choice)) ne (answered-left v rings left (p .0) n s f));
+          (λ ne. (
+            other-page left (p .0) _ (chosen-lt (f .choice)) ne (answered-left v rings left (p .0) n s f),
+            rw (ne-eqb k (p .0) ne),
+          ))
+          (λ q. absurd (omega arith));
       backend = λ x y o. clash x refl;
     }
 
-    module _ (left : List ℕ) (p : PortId) (t : TagId) (s : Serial) (y : Status) (f : Finished v rings left (p .0) t s y) where
-      abbrev deed : Deed
-      deed = finishing (p .0) left (t .0) (s .0) y
+    module _ (left : List ℕ) (p : PortId) (cs : List Completion) (zs : List Status) (f : Finished v rings left (p .0) cs zs) where
+      -- the books after its deeds
+      abbrev new : Book
+      new = posts k (finishings left (p .0) cs zs) b
 
       left-other : k ≢ p .0 → pagesOf guestRing left k ≡ w .page
-      left-other ne = other-page left (p .0) _ y (f .small) ne (finished-left v rings left (p .0) t s y f)
+      left-other ne = other-page left (p .0) _ (f .small) ne (f .written)
 
-      own : k ≡ p .0 → Finished v rings left k t s y
-      own e = subst (λ (j : ℕ). Finished v rings left j t s y) (sym e) f
+      own : k ≡ p .0 → Finished v rings left k cs zs
+      own e = subst (λ (j : ℕ). Finished v rings left j cs zs) (sym e) f
 
       opened : k ≡ p .0 → isClosed (b .state) ≡ false
       opened e = rw view-state at (own e .opened)
@@ -250,30 +274,50 @@ module _ (k : ℕ) (small : k < ports) (w : System) (h : Kept k w) (z : Waits) (
       req-own : k ≡ p .0 → reqEvent (pagesOf guestRing left k) ≡ reqEvent (w .page)
       req-own e =
           ap reqEvent
-          (responded-here k small (w .events) (h .half) (sound-here k small w h) rings here left _ y (opened e) whole
-          (finished-left v rings left k t s y (own e)))
-          ∙ req-responded (w .page) sized _ _ y
+          (responded-here k small (w .events) (h .half) (sound-here k small w h) rings here left _ (opened e) whole (own e .written))
+          ∙ req-responded (w .page) sized _ _
+
+      req-kept : reqEvent (pagesOf guestRing left k) ≡ reqEvent (w .page)
+      req-kept = elim (ℕ-discrete k (p .0)) [ yes e ↦ req-own e | no e ↦ ap reqEvent (left-other e) ]
 
       -- what the backend waits for is as it was
-      backend-armed : z .backend ≡ true → z .backendTold ≡ false → isOpen (posts k (deed ∷ []) b .state) ≡ true
-          → (reqEvent (pagesOf guestRing left k) ≡ (length (posts k (deed ∷ []) b .taken) + 1) % modulus) × (length (posts k (deed ∷ []) b .taken) ≡ length (w .put))
-      backend-armed x u =
-          by-cond
-          (λ (c : Book). isOpen (c .state) ≡ true → (reqEvent (pagesOf guestRing left k) ≡ (length (c .taken) + 1) % modulus) × (length (c .taken) ≡ length (w .put)))
-          (eqb k (p .0)) (entry deed b) b
-          (λ e o.
-          let n = length-answerTo (t .0) (s .0) (said (p .0) left y b) (b .taken) in
-          (req-own (eqb-true k (p .0) e) ∙ a .backend x u o .0 ∙ ap (λ (i : ℕ). (i + 1) % modulus) (sym n), n ∙ a .backend x u o .1))
-          (λ e o. (ap reqEvent (left-other (eqb-false k (p .0) e)) ∙ a .backend x u o .0, a .backend x u o .1))
+      backend-armed : z .backend ≡ true → z .backendTold ≡ false → isOpen (new .state) ≡ true
+          → (reqEvent (pagesOf guestRing left k) ≡ (length (new .taken) + 1) % modulus) × (length (new .taken) ≡ length (w .put))
+      backend-armed x u o =
+          let same = posts-steady k (p .0) left cs zs b in
+          let c = a .backend x u (rw (same .state) at o) in
+          rw (same .taken) (req-kept ∙ c .0, c .1)
 
-    complete-armed : (left : List ℕ) (p : PortId) (t : TagId) (s : Serial) (x : Completed) → CompleteFacts v rings left p t s x → CompleteLeft rings left x
+      still-other : k ≢ p .0 → Still left new
+      still-other ne = (left-other ne, ap (λ (c : Book). length (c .answered)) (posts-others k (p .0) left ne cs zs b))
+
+    -- as many statuses as entries
+    statuses-many : (left : List ℕ) (p : PortId) (cs : List Completion) (zs : List Status) → Finished v rings left (p .0) cs zs → length zs ≡ length cs
+    unfolding responsesFor
+    statuses-many left p cs zs f =
+        let xs = responsesFor (v .tag (p .0)) cs in
+        rw (f .statuses) (length-map xs (λ (x : ResponseDue). x .status) ∙ length-map cs (responseFor (v .tag (p .0))))
+
+    -- an empty list changes nothing
+    still-none : (left : List ℕ) (p : PortId) (cs : List Completion) (zs : List Status) → Finished v rings left (p .0) cs zs → length cs ≡ 0
+        → Still left (posts k (finishings left (p .0) cs zs) b)
+    unfolding responsesFor
+    still-none left p [] zs f e = (same-rings left (f .written ∙ none-responded v rings (p .0)), refl)
+    still-none left p (c ∷ cs) zs f e = absurd (omega arith)
+
+    complete-armed : (left : List ℕ) (p : PortId) (cs : List Completion) (x : CompleteAnswer) → CompleteFacts v rings left p cs x → CompleteLeft rings left x
         → CompleteTold v rings p x
-        → Armed (pagesOf guestRing left k) (length (w .put)) (length (w .collected)) (posts k (completeDeeds left (p .0) (t .0) (s .0) x) b) (afterCompletion k z x)
-    complete-armed left p t s (Completed.Refused n) f e y = armed-same (pagesOf guestRing left k) (same-rings left e)
-    complete-armed left p t s (Completed.Done q r y) f e o = record {
-      guest = rw (o .0) (guest-armed left (deed left p t s r f) y (o .1) (opened left p t s r f) (left-other left p t s r f));
-      backend = backend-armed left p t s r f;
-    }
+        → Armed (pagesOf guestRing left k) (length (w .put)) (length (w .collected)) (posts k (completeDeeds left (p .0) cs x) b) (afterCompletion k z x)
+    complete-armed left p cs (noneDone n) f e y = armed-same (pagesOf guestRing left k) (same-rings left e)
+    complete-armed left p cs (allDone q zs y) f e o =
+        let many = statuses-many left p cs zs f in
+        record {
+          guest =
+              rw (o .0)
+              (guest-armed left (p .0) (length zs) (new left p cs zs f) y (o .1) (omega (arith, f .few)) (opened left p cs zs f) (still-other left p cs zs f)
+              (λ n. still-none left p cs zs f (sym many ∙ n)));
+          backend = backend-armed left p cs zs f;
+        }
 
   open-armed : (p : PortId) (sheet : List ℕ) (e : Reply) → k ≢ p .0
       → Armed (w .page) (length (w .put)) (length (w .collected)) (posts k (openDeeds (p .0) sheet e) b) z
@@ -297,11 +341,11 @@ module _ (k : ℕ) (small : k < ports) (w : System) (h : Kept k w) (z : Waits) (
       let u = viewAt (w .events) in
       let t = told-step (w .backend) (w .events) (turnOn k (w .page) others grants words) (lent-bytes k small w h others (y .0) (y .1)) (h .told) in
       turn-armed others (y .0) (y .1) (x .effect .rings) (x .effect .answer) (facts-due u x (t .asDue .0)) (left-due u x (t .asDue .0)) (tells-due u x (t .asDue .0))
-  armed-step (completing others p t s r) y =
-      let x = eventOn (w .backend) (completeOn k (w .page) others p t s r) in
+  armed-step (completing others p entries) y =
+      let x = eventOn (w .backend) (completeOn k (w .page) others p entries) in
       let u = viewAt (w .events) in
-      let n = told-step (w .backend) (w .events) (completeOn k (w .page) others p t s r) (lent-bytes k small w h others (y .0) (y .1)) (h .told) in
-      complete-armed others (y .0) (y .1) (x .effect .rings) p t s (x .effect .answer) (facts-due u x (n .asDue .0)) (left-due u x (n .asDue .0)) (tells-due u x (n .asDue .0))
+      let n = told-step (w .backend) (w .events) (completeOn k (w .page) others p entries) (lent-bytes k small w h others (y .0) (y .1)) (h .told) in
+      complete-armed others (y .0) (y .1) (x .effect .rings) p (completionsIn entries) (x .effect .answer) (facts-due u x (n .asDue .0)) (left-due u x (n .asDue .0)) (tells-due u x (n .asDue .0))
   armed-step (openingOther p sheet) y = open-armed p sheet (eventOn (w .backend) (Open p sheet) .effect) y
   armed-step (closingAny p) y = close-armed p (eventOn (w .backend) (Close p) .effect)
 

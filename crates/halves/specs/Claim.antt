@@ -41,7 +41,7 @@ abbrev pub NotOverrun : ℕ → (c : Call) → Effect c → Type 0
 NotOverrun k (Open p sheet) e = Unit
 NotOverrun k (Close p) e = Unit
 NotOverrun k (Turn rings grants words) e = e .answer ≡ Turned.Overrun (portId k) → ⊥
-NotOverrun k (Complete rings p t s x) e = Unit
+NotOverrun k (Complete rings p entries) e = Unit
 
 pub record Holds (k : ℕ) (w : System) : Type 0 where
   -- The slots that the backend took are the first of those put, byte for byte and in order (rule 16.24),
@@ -76,7 +76,7 @@ abbrev pub Lends : ℕ → Step → Type 0
 Lends k (putting r) = Fit r
 Lends k collecting = Unit
 Lends k (turning others grants words) = IsBytes others × (length others ≡ ringsLength)
-Lends k (completing others p t s x) = IsBytes others × (length others ≡ ringsLength)
+Lends k (completing others p entries) = IsBytes others × (length others ≡ ringsLength)
 Lends k (openingOther p sheet) = k ≡ p .0 → ⊥
 Lends k (closingAny p) = Unit
 
@@ -85,7 +85,7 @@ abbrev pub NotOpening : ℕ → Call → Type 0
 NotOpening k (Open p sheet) = k ≡ p .0 → ⊥
 NotOpening k (Close p) = Unit
 NotOpening k (Turn rings grants words) = Unit
-NotOpening k (Complete rings p t s x) = Unit
+NotOpening k (Complete rings p entries) = Unit
 
 -- port k is one of the ports, and its sheet is for a one-page ring of 64-bit guests (rule 16.21)
 pub record ForGuest (k : ℕ) (sheet : List ℕ) : Type 0 where

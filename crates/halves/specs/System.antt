@@ -4,7 +4,6 @@ use Prim.Native.Nat.{ℕ}
 use mathlib.Core.Bool.{cond}
 use mathlib.Core.List.{List, [], _∷_, _++_}
 use lib.Dec.{eqb}
-use lib.IntN.{ℤ}
 use lib.ListN.{length}
 use Rattle.model.specs.Backend.{Backend, emptyBackend, eventOn, afterCall}
 use Rattle.model.specs.Buffers.{pagesOf, setPages}
@@ -17,8 +16,6 @@ use Rattle.model.specs.declared.Collected.{Collected}
 use Rattle.model.specs.declared.Pair.{Pair}
 use Rattle.model.specs.declared.PortId.{PortId}
 use Rattle.model.specs.declared.Put.{Put}
-use Rattle.model.specs.declared.Serial.{Serial}
-use Rattle.model.specs.declared.TagId.{TagId}
 use Rattle.frontend.specs.Guest.{guestRing, Guest, zeroPage, freshGuest, putDue, collectDue}
 
 -- ---- what the backend took, by its history
@@ -60,13 +57,13 @@ pub record System : Type 0 where
   pub collected : List Gathered
   pub refusals : List ℕ
 
--- A step of either half (rule 16.22). A turn and a completion are lent the guest's page among any others. A completion and a close may be of any port; an opening
--- is of another.
+-- A step of either half (rule 16.22). A turn and a completion are lent the guest's page among any others. A completion, which is of any list of entries, and a
+-- close may be of any port; an opening is of another.
 pub data Step : Type 0 where
   putting : (r : Request) → Step
   collecting : Step
   turning : (others grants words : List ℕ) → Step
-  completing : (others : List ℕ) (port : PortId) (tag : TagId) (serial : Serial) (result : ℤ) → Step
+  completing : (others : List ℕ) (port : PortId) (entries : List ℕ) → Step
   openingOther : (port : PortId) (sheet : List ℕ) → Step
   closingAny : (port : PortId) → Step
 
@@ -91,8 +88,8 @@ logRefused (Collected.Response q z) = []
 abbrev pub turnOn : ℕ → List ℕ → List ℕ → List ℕ → List ℕ → Call
 turnOn k page others grants words = Turn (setPages guestRing others k page) grants words
 
-abbrev pub completeOn : ℕ → List ℕ → List ℕ → PortId → TagId → Serial → ℤ → Call
-completeOn k page others p t s x = Complete (setPages guestRing others k page) p t s x
+abbrev pub completeOn : ℕ → List ℕ → List ℕ → PortId → List ℕ → Call
+completeOn k page others p entries = Complete (setPages guestRing others k page) p entries
 
 -- a call of the backend, which leaves the guest this page
 abbrev pub called : System → Call → List ℕ → System
@@ -133,8 +130,8 @@ step k w collecting =
 step k w (turning others grants words) =
     let c = turnOn k (w .page) others grants words in
     called w c (pagesOf guestRing (eventOn (w .backend) c .effect .rings) k)
-step k w (completing others p t s x) =
-    let c = completeOn k (w .page) others p t s x in
+step k w (completing others p entries) =
+    let c = completeOn k (w .page) others p entries in
     called w c (pagesOf guestRing (eventOn (w .backend) c .effect .rings) k)
 step k w (openingOther p sheet) = called w (Open p sheet) (w .page)
 step k w (closingAny p) = called w (Close p) (w .page)

@@ -7,12 +7,11 @@ use mathlib.Core.List.{List, [], _∷_}
 use lib.Dec.{eqb}
 use lib.ListN.{length}
 use Rattle.model.specs.Backend.{eventOn}
-use Rattle.model.specs.Calls.{Call}
+use Rattle.model.specs.Calls.{Call, CompleteAnswer, noneDone, allDone}
 use Rattle.model.specs.Demand.{All, LendsBytes}
 use Rattle.model.specs.History.{book}
 use Rattle.model.specs.Port.{isOpen}
 use Rattle.model.specs.declared.Collected.{Collected}
-use Rattle.model.specs.declared.Completed.{Completed}
 use Rattle.model.specs.declared.Put.{Put}
 use Rattle.model.specs.declared.Turned.{Turned}
 use Rattle.frontend.specs.Guest.{putDue, collectDue}
@@ -49,9 +48,9 @@ afterTurn k z (Turned.Started p t s plan) = record { guest = z .guest; guestTold
 afterTurn k z (Turned.Answered p n s y) = record { guest = z .guest; guestTold = z .guestTold || eqb k (p .0) && y; backend = false; backendTold = false }
 
 -- a completion tells the guest of its port, where it says to notify
-abbrev pub afterCompletion : ℕ → Waits → Completed → Waits
-afterCompletion k z (Completed.Refused n) = z
-afterCompletion k z (Completed.Done p s y) =
+abbrev pub afterCompletion : ℕ → Waits → CompleteAnswer → Waits
+afterCompletion k z (noneDone n) = z
+afterCompletion k z (allDone p zs y) =
     record { guest = z .guest; guestTold = z .guestTold || eqb k (p .0) && y; backend = z .backend; backendTold = z .backendTold }
 
 -- one step more, by what it answers
@@ -59,7 +58,7 @@ abbrev pub waitsAfter : ℕ → System → Step → Waits → Waits
 waitsAfter k w (putting r) z = afterPut z (putDue (w .guest) (w .page) r .answer)
 waitsAfter k w collecting z = afterCollect z (collectDue (w .guest) (w .page) .answer)
 waitsAfter k w (turning others grants words) z = afterTurn k z (eventOn (w .backend) (turnOn k (w .page) others grants words) .effect .answer)
-waitsAfter k w (completing others p t s x) z = afterCompletion k z (eventOn (w .backend) (completeOn k (w .page) others p t s x) .effect .answer)
+waitsAfter k w (completing others p entries) z = afterCompletion k z (eventOn (w .backend) (completeOn k (w .page) others p entries) .effect .answer)
 waitsAfter k w (openingOther p sheet) z = z
 waitsAfter k w (closingAny p) z = z
 

@@ -1,29 +1,28 @@
 -- An answer that is due is the one that its number and its words spell: decoding gives back what was encoded. Assumes nothing.
-use mathlib.Core.Path.{_≡_, refl}
+use mathlib.Core.Path.{_≡_, refl, ap, _∙_}
 use mathlib.Core.Bool.{Bool, true, false, not, _&&_}
-use mathlib.Core.List.{List, [], _∷_}
-use Prim.Native.Nat.{ℕ, zero, suc, _*_}
+use mathlib.Core.List.{List, [], _∷_, map}
+use Prim.Native.Nat.{ℕ, zero, suc, _-_, _*_}
 use native.Mathlib.Omega.{arith}
 use lib.Dec.{ltb}
-use lib.ListN.{length, replicate}
+use lib.ListN.{length, take, replicate, length-map}
 use lib.Seq.{take-at}
 use Rattle.wire.specs.Part.{part}
-use Rattle.model.specs.Answers.{replyNumber, turnedNumber, turnedWords, completedNumber, magnitude, yesNo, extentsIn, turnAnswer, turnLeft, doneLeft}
+use Rattle.model.specs.Answers.{replyNumber, turnedNumber, turnedWords, completedNumber, magnitude, magnitudes, statusWords, yesNo, extentsIn, turnAnswer, turnLeft, doneLeft, manyLeft}
 use Rattle.model.specs.Buffers.{ports, areRings, areGrants}
-use Rattle.model.specs.Calls.{TurnEffect}
+use Rattle.model.specs.Calls.{TurnEffect, CompleteAnswer, noneDone, allDone, mostCompletions}
 use Rattle.model.specs.Plan.{Extent, extentWords, wordsBeside}
 use Rattle.model.specs.Port.{View}
 use Rattle.model.specs.Ring.{Request}
 use Rattle.model.specs.Rules.{dueTurn}
 use Rattle.model.specs.Turn.{idle, settled, overran, servedBy, passedOver, turned}
-use Rattle.model.specs.declared.Completed.{Completed}
 use Rattle.model.specs.declared.Pending.{Pending}
 use Rattle.model.specs.declared.Reply.{Reply}
 use Rattle.model.specs.declared.Status.{Status}
 use Rattle.model.specs.declared.Turned.{Turned}
 use Rattle.model.specs.declared.Verdict.{Verdict}
 use Rattle.model.proofs.Base.{by-cond}
-use Rattle.kernelharp.specs.Decode.{replyOf, statusSaid, saysYes, turnedOf, completedOf}
+use Rattle.kernelharp.specs.Decode.{replyOf, statusSaid, saysYes, turnedOf, completedOf, manyOf}
 use Rattle.kernelharp.proofs.Numbers.{NumberedReply, Numbered}
 
 -- ---- the answers out of numbers and words
@@ -42,10 +41,27 @@ status-decoded Status.Okay = refl
 status-decoded Status.Error = refl
 status-decoded Status.NotSupported = refl
 
-pub completed-decoded : (r : Completed) (answer words : List ℕ) → Numbered r → words ≡ doneLeft r answer → completedOf (completedNumber r) words ≡ r
-completed-decoded (Completed.Refused zero) answer words h w = absurd (h refl)
-completed-decoded (Completed.Refused (suc n)) answer words h w = refl
-completed-decoded (Completed.Done p z y) answer words h w = rw (w, status-decoded z, yes-decoded y)
+pub completed-decoded : (r : CompleteAnswer) (answer words : List ℕ) → Numbered 1 r → words ≡ doneLeft r answer → completedOf (completedNumber r) words ≡ r
+completed-decoded (noneDone zero) answer words h w = absurd (h refl)
+completed-decoded (noneDone (suc n)) answer words h w = refl
+completed-decoded (allDone p [] y) answer words h w = absurd (omega (arith, h .0))
+completed-decoded (allDone p (z ∷ []) y) answer words h w = rw (w, status-decoded z, yes-decoded y)
+completed-decoded (allDone p (z ∷ x ∷ zs) y) answer words h w = absurd (omega (arith, h .0))
+
+-- the words of the statuses in an answer to a list
+pub statuses-in : (zs : List Status) → take (length zs) (statusWords zs) ≡ magnitudes zs
+unfolding statusWords
+statuses-in zs = take-at (magnitudes zs) (replicate (mostCompletions - length zs) 0) (length zs) (length-map zs magnitude)
+
+statuses-decoded : (zs : List Status) → map statusSaid (magnitudes zs) ≡ zs
+statuses-decoded [] = refl
+statuses-decoded (z ∷ zs) = λ i. status-decoded z i ∷ statuses-decoded zs i
+
+pub many-decoded : (n : ℕ) (r : CompleteAnswer) (answer words : List ℕ) → Numbered n r → words ≡ manyLeft r answer → manyOf (completedNumber r) words ≡ r
+many-decoded n (noneDone zero) answer words h w = absurd (h refl)
+many-decoded n (noneDone (suc i)) answer words h w = refl
+many-decoded n (allDone p zs y) answer words h w =
+    rw (w, yes-decoded y) (ap (λ (l : List Status). allDone p l y) (ap (map statusSaid) (statuses-in zs) ∙ statuses-decoded zs))
 
 -- a refused turn has a number
 abbrev pub NumberedTurned : Turned → Type 0

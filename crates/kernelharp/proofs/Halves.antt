@@ -9,8 +9,9 @@ use lib.ListN.{length, length-replicate}
 use Rattle.wire.proofs.Part.{setPart-part}
 use Rattle.model.specs.Answers.{putNumber, collectedNumber, putLeft, collectedLeft, extentsIn}
 use Rattle.model.specs.Backend.{Backend, eventOn, afterCall}
-use Rattle.model.specs.Buffers.{ports, pagesOf, setPages}
-use Rattle.model.specs.Calls.{Turn, Complete, Effect, Event}
+use Rattle.model.specs.Buffers.{ports, ringsLength, pagesOf, setPages}
+use Rattle.model.specs.Calls.{Turn, Effect, Event}
+use Rattle.model.specs.Complete.{theOne}
 use Rattle.model.specs.Ring.{Request}
 use Rattle.model.specs.Turn.{portId, tagId, serialOf}
 use Rattle.model.specs.Demand.{All, IsBytes}
@@ -20,8 +21,8 @@ use Rattle.memory.specs.Backend.{backendOf, Exact}
 use Rattle.memory.specs.Words.{zeros}
 use Rattle.memory.proofs.Changes.{becomes-exact}
 use Rattle.memory.proofs.Zeros.{backend-zeros, zeros-exact}
-use Rattle.backend.proofs.Every.{outcome}
-use Rattle.backend.proofs.Runs.{zeros-told}
+use Rattle.runs.proofs.Every.{outcome}
+use Rattle.runs.proofs.Runs.{zeros-told}
 use Rattle.asking.specs.Request.{requestIn, isBad}
 use Rattle.frontend.specs.Guest.{guestRing, Guest, guestPage, zeroPage, isPage, mostOutstanding, has, sameId, samePair, freshGuest, PutEffect, putDue, puts, CollectEffect, ahead, nextPair, collectDue, collects, waits}
 use Rattle.frontend.specs.Words.{guestWords, pairsIn, guestOf, guestZeros}
@@ -34,8 +35,9 @@ use Rattle.halves.specs.Claim.{NotOpening}
 use Rattle.halves.proofs.Before.{Before, before-none, before-step}
 use Rattle.halves.proofs.Together.{Kept, kept-first, kept-step, holds}
 use Rattle.kernelharp.specs.Guest.{GuestLeft, putDueOn, collectDueOn, PutReturned, CollectReturned}
+use Rattle.kernelharp.specs.Promise.{dueOn, listCall}
 use Rattle.kernelharp.specs.Halves.{HalfStep, put, collect, backend, pageLeft, LendsPage, AreWords, HalvesRun, Log, nowPut, nowCollected, nowRefused, logged, shown, shownAfter, openedLog, Wish, makesPut, makesCollect, makesCall, withPage, MayWish, HalvesRunOf, HalvesTheorem}
-use Rattle.kernelharp.specs.Run.{Made, khOpen, khClose, khTurn, khComplete, Outcome, Left, Step, memoryLeft, memoryAfter, callOf, effectOf, eventOf, eventsAfter, historyOf, Promise, Run, BytesLent}
+use Rattle.kernelharp.specs.Run.{Made, khOpen, khClose, khTurn, khComplete, khCompleteMany, Outcome, Left, Step, memoryLeft, memoryAfter, callOf, effectOf, eventOf, eventsAfter, historyOf, Promise, Run, BytesLent}
 use Rattle.kernelharp.proofs.Runs.{effect-due, step-returned, run-after, call-done}
 
 -- ---- the guest's calls
@@ -134,6 +136,20 @@ module _ (k : ℕ) (small : k < ports) (m w page : List ℕ) (l : Log) (h : Kept
   collect-kept : (answer : List ℕ) (o : GuestLeft) → CollectReturned w page answer o → Kept k (shown m (o .guest) (o .page) (logged l (collect answer o)))
   collect-kept answer o r = subst (Kept k) (collect-shown answer o r) (kept-step k small (shown m w page l) h collecting tt)
 
+  -- a list of completions, whichever function it was
+  list-kept : (rings : List ℕ) (p : ℕ) (entries left : List ℕ) → left ≡ dueOn m (listCall rings p entries) .rings → IsBytes rings → length rings ≡ ringsLength
+      → pagesOf guestRing rings k ≡ page → (x : System) → called (shown m w page l) (listCall rings p entries) (pagesOf guestRing left k) ≡ x → Kept k x
+  unfolding step
+  list-kept rings p entries left due bytes sized here x e =
+      let S : List ℕ → System =
+      λ z. called (shown m w page l) (listCall z p entries) (pagesOf guestRing (eventOn (backendOf m) (listCall z p entries) .effect .rings) k) in
+      subst
+      (Kept k)
+      (ap S (lent-same k rings page here)
+      ∙ ap (λ (z : List ℕ). called (shown m w page l) (listCall rings p entries) (pagesOf guestRing z k)) (sym due)
+      ∙ e)
+      (kept-step k small (shown m w page l) h (completing rings (portId p) entries) (bytes, sized))
+
   -- a call that lends the page: what it leaves of the page, and the system that it shows
   backend-kept : (c : Made) (o : Outcome c) → Promise m c o → LendsPage k page c
       → Kept k (shown (memoryLeft c o) w (pageLeft k page c o) (logged l (backend (record { made = c; left = o }))))
@@ -153,16 +169,9 @@ module _ (k : ℕ) (small : k < ports) (m w page : List ℕ) (l : Log) (h : Kept
       ∙ called-shown m (khTurn rings grants answer) o r w page (pagesOf guestRing (o .rings) k) l)
       (kept-step k small (shown m w page l) h (turning rings grants words) (y .0, y .1))
   backend-kept (khComplete rings p t s x answer) o r y =
-      let S : List ℕ → System =
-      λ z.
-      let c = Complete z (portId p) (tagId t) (serialOf s) x in
-      called (shown m w page l) c (pagesOf guestRing (eventOn (backendOf m) c .effect .rings) k) in
-      subst
-      (Kept k)
-      (ap S (lent-same k rings page (y .2))
-      ∙ ap (λ (z : List ℕ). called (shown m w page l) (Complete rings (portId p) (tagId t) (serialOf s) x) (pagesOf guestRing z k)) (sym (r .ringsDue))
-      ∙ called-shown m (khComplete rings p t s x answer) o r w page (pagesOf guestRing (o .rings) k) l)
-      (kept-step k small (shown m w page l) h (completing rings (portId p) (tagId t) (serialOf s) x) (y .0, y .1))
+      list-kept rings p (theOne (tagId t) (serialOf s) x) (o .rings) (r .ringsDue) (y .0) (y .1) (y .2) _ (called-shown m (khComplete rings p t s x answer) o r w page (pagesOf guestRing (o .rings) k) l)
+  backend-kept (khCompleteMany rings p entries answer) o r y =
+      list-kept rings p entries (o .rings) (r .ringsDue) (y .0) (y .1) (y .2) _ (called-shown m (khCompleteMany rings p entries answer) o r w page (pagesOf guestRing (o .rings) k) l)
 
 run-kept : (k : ℕ) → k < ports → (m w page : List ℕ) (l : Log) → Kept k (shown m w page l) → (run : List HalfStep) → HalvesRun k m w page run
     → Kept k (shownAfter k m w page l run)
@@ -233,12 +242,15 @@ page-lent k small page b z (khTurn rings grants answer) y =
     (bytes-setPages guestRing rings k page (y .0) b, length-setPages guestRing guest-fits rings k (y .1) small page (guest-bytes page z) ∙ y .1, pagesOf-setPages guestRing guest-fits rings k (y .1) small page (guest-bytes page z))
 page-lent k small page b z (khComplete rings p t s x answer) y =
     (bytes-setPages guestRing rings k page (y .0) b, length-setPages guestRing guest-fits rings k (y .1) small page (guest-bytes page z) ∙ y .1, pagesOf-setPages guestRing guest-fits rings k (y .1) small page (guest-bytes page z))
+page-lent k small page b z (khCompleteMany rings p entries answer) y =
+    (bytes-setPages guestRing rings k page (y .0) b, length-setPages guestRing guest-fits rings k (y .1) small page (guest-bytes page z) ∙ y .1, pagesOf-setPages guestRing guest-fits rings k (y .1) small page (guest-bytes page z))
 
 lent-bytes : (k : ℕ) (page : List ℕ) (c : Made) → LendsPage k page c → BytesLent c
 lent-bytes k page (khOpen p sheet) y = tt
 lent-bytes k page (khClose p) y = tt
 lent-bytes k page (khTurn rings grants answer) y = y .0
 lent-bytes k page (khComplete rings p t s x answer) y = y .0
+lent-bytes k page (khCompleteMany rings p entries answer) y = y .0
 
 run-every : (k : ℕ) → k < ports → (m w page : List ℕ) (l : Log) → Kept k (shown m w page l) → Exact m → length w ≡ guestWords
     → (wishes : List Wish) → All (MayWish k) wishes → HalvesRunOf k m w page wishes

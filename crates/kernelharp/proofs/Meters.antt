@@ -1,19 +1,22 @@
 -- What holds of every metered run of the C functions, and that every list of calls and zeroings has one. Assumes nothing but what the theorem states.
 use mathlib.Core.Path.{_≡_, refl, sym, ap, subst, _∙_}
 use mathlib.Core.Bool.{Bool, true, false, cond, true≢false}
-use mathlib.Core.List.{List, [], _∷_}
+use mathlib.Core.List.{List, [], _∷_, map}
 use mathlib.Core.Option.{Option, none, some}
-use Prim.Native.Nat.{ℕ, zero, suc}
+use Prim.Native.Nat.{ℕ, zero, suc, min}
+use native.Mathlib.Omega.{arith}
 use lib.Dec.{eqb}
+use lib.ListN.{length, take}
 use borrow.Author.Tests.{eqb-true}
-use Rattle.model.specs.Answers.{turnedNumber, completedNumber, magnitude, extentsIn, turnLeft, doneLeft}
+use Rattle.model.specs.Answers.{turnedNumber, completedNumber, magnitude, magnitudes, statusWords, extentsIn, turnLeft, doneLeft, manyLeft}
 use Rattle.model.specs.Backend.{viewOf}
-use Rattle.model.specs.Calls.{Effect}
-use Rattle.model.specs.Counters.{zeroCounters, raisedBy, statusCounter, wordCounter, afterTurned, afterCompleted, turnMetered, doneMetered}
+use Rattle.model.specs.Calls.{CompleteAnswer, noneDone, allDone, Effect, mostCompletions}
+use Rattle.model.specs.Complete.{theOne}
+use Rattle.model.specs.Counters.{zeroCounters, raisedBy, raisedByAll, statusCounter, wordCounter, afterTurned, afterCompleted, turnMetered, doneMetered, manyMetered}
 use Rattle.model.specs.Counts.{Act, zeroed, eventsIn, answerPort, handed, went, KeptWell, Counted}
 use Rattle.model.specs.Demand.{All}
 use Rattle.model.specs.Rules.{effectDue}
-use Rattle.model.specs.declared.Completed.{Completed}
+use Rattle.model.specs.Turn.{portId, tagId, serialOf}
 use Rattle.model.specs.declared.Counter.{Counter}
 use Rattle.model.specs.declared.Counters.{Counters}
 use Rattle.model.specs.declared.Status.{Status}
@@ -24,13 +27,13 @@ use Rattle.memory.specs.Backend.{backendOf, Exact}
 use Rattle.memory.specs.Words.{zeros}
 use Rattle.memory.proofs.Changes.{becomes-exact}
 use Rattle.memory.proofs.Zeros.{zeros-exact}
-use Rattle.backend.proofs.Every.{outcome}
-use Rattle.backend.proofs.Runs.{zeros-told}
-use Rattle.kernelharp.specs.Promise.{dueOn, turnCall, completeCall}
-use Rattle.kernelharp.specs.Run.{Made, khOpen, khClose, khTurn, khComplete, Outcome, Step, memoryLeft, callOf, effectOf, eventOf, Promise, BytesLent}
+use Rattle.runs.proofs.Every.{outcome}
+use Rattle.runs.proofs.Runs.{zeros-told}
+use Rattle.kernelharp.specs.Promise.{dueOn, turnCall, listCall, completeCall}
+use Rattle.kernelharp.specs.Run.{Made, khOpen, khClose, khTurn, khComplete, khCompleteMany, Outcome, Step, memoryLeft, callOf, effectOf, eventOf, Promise, BytesLent}
 use Rattle.kernelharp.specs.Meters.{HostStep, unmetered, metered, zeroing, Records, stored, MeterPromise, MeteredRun, recordsAfter, actOf, actsAfter, Wish, makes, zeroes, wishOf, WishBytes, MeteredRunOf, MetersTheorem}
 use Rattle.kernelharp.proofs.Numbers.{Numbered, turn-keeps, complete-numbered}
-use Rattle.kernelharp.proofs.Decode.{NumberedTurned}
+use Rattle.kernelharp.proofs.Decode.{NumberedTurned, statuses-in}
 use Rattle.kernelharp.proofs.Runs.{kept-numbered, effect-due, step-returned, step-told, Done, call-done}
 
 -- ---- the words that a call left raise what its answer raises
@@ -49,11 +52,27 @@ turn-words (Turned.Overrun p) answer extents words n c h e w = rw (e, w)
 turn-words (Turned.Started p t s plan) answer extents words n c h e w = rw (e, w)
 turn-words (Turned.Answered p i z y) answer extents words n c h e w = rw (e, w) (ap (λ (x : Counter). raisedBy x (raisedBy Counter.Taken c)) (status-word z))
 
-done-words : (r : Completed) (answer words : List ℕ) (n : ℕ) (c : Counters) → Numbered r → n ≡ completedNumber r → words ≡ doneLeft r answer
+done-words : (r : CompleteAnswer) (answer words : List ℕ) (n : ℕ) (c : Counters) → Numbered 1 r → n ≡ completedNumber r → words ≡ doneLeft r answer
     → doneMetered n words c ≡ afterCompleted r c
-done-words (Completed.Refused zero) answer words n c h e w = absurd (h refl)
-done-words (Completed.Refused (suc i)) answer words n c h e w = rw e
-done-words (Completed.Done p z y) answer words n c h e w = rw (e, w) (ap (λ (x : Counter). raisedBy x c) (status-word z))
+done-words (noneDone zero) answer words n c h e w = absurd (h refl)
+done-words (noneDone (suc i)) answer words n c h e w = rw e
+done-words (allDone p [] y) answer words n c h e w = absurd (omega (arith, h .0))
+done-words (allDone p (z ∷ []) y) answer words n c h e w = rw (e, w) (ap (λ (x : Counter). raisedBy x c) (status-word z))
+done-words (allDone p (z ∷ x ∷ zs) y) answer words n c h e w = absurd (omega (arith, h .0))
+
+status-words : (zs : List Status) → map wordCounter (magnitudes zs) ≡ map statusCounter zs
+status-words [] = refl
+status-words (z ∷ zs) = λ i. status-word z i ∷ status-words zs i
+
+many-words : (k : ℕ) (r : CompleteAnswer) (answer words : List ℕ) (n : ℕ) (c : Counters) → Numbered k r → n ≡ completedNumber r → words ≡ manyLeft r answer
+    → manyMetered n words c ≡ afterCompleted r c
+many-words k (noneDone zero) answer words n c h e w = absurd (h refl)
+many-words k (noneDone (suc i)) answer words n c h e w = rw e
+many-words k (allDone p zs y) answer words n c h e w =
+    let few : min mostCompletions (length zs) ≡ length zs = omega (arith, h .0, h .1) in
+    rw (e, w)
+    (ap (λ (l : List Counter). raisedByAll l c)
+    (ap (λ (j : ℕ). map wordCounter (take j (statusWords zs))) few ∙ ap (map wordCounter) (statuses-in zs) ∙ status-words zs))
 
 -- so the record is left as the step's own event raises it
 left-handed : (m : List ℕ) (c : Made) (o : Outcome c) (lent left : Counters) → Promise m c o → MeterPromise c o lent left → left ≡ handed (callOf c) (effectOf c o) lent
@@ -70,8 +89,13 @@ left-handed m (khTurn rings grants answer) o lent left r q =
 left-handed m (khComplete rings p t s x answer) o lent left r q =
     let e = dueOn m (completeCall rings p t s x) in
     q
-    ∙ done-words (e .answer) answer (o .answer) (o .number) lent (complete-numbered (viewOf (backendOf m)) rings _ _ _ x) (r .returned .number) (r .answerDue)
+    ∙ done-words (e .answer) answer (o .answer) (o .number) lent (complete-numbered (viewOf (backendOf m)) rings (portId p) (theOne (tagId t) (serialOf s) x)) (r .returned .number) (r .answerDue)
     ∙ ap (λ (y : Effect (completeCall rings p t s x)). afterCompleted (y .answer) lent) (sym (effect-due m (khComplete rings p t s x answer) o r))
+left-handed m (khCompleteMany rings p entries answer) o lent left r q =
+    let e = dueOn m (listCall rings p entries) in
+    q
+    ∙ many-words _ (e .answer) answer (o .answer) (o .number) lent (complete-numbered (viewOf (backendOf m)) rings (portId p) entries) (r .returned .number) (r .answerDue)
+    ∙ ap (λ (y : Effect (listCall rings p entries)). afterCompleted (y .answer) lent) (sym (effect-due m (khCompleteMany rings p entries answer) o r))
 
 -- ---- every metered run
 
@@ -147,6 +171,7 @@ meter-raised (khOpen p sheet) o k e lent = no-port k e
 meter-raised (khClose p) o k e lent = no-port k e
 meter-raised (khTurn rings grants answer) o k e lent = record { left = turnMetered (o .number) (o .answer) lent; promise = refl }
 meter-raised (khComplete rings p t s x answer) o k e lent = record { left = doneMetered (o .number) (o .answer) lent; promise = refl }
+meter-raised (khCompleteMany rings p entries answer) o k e lent = record { left = manyMetered (o .number) (o .answer) lent; promise = refl }
 
 -- one call more: its answer goes to the record of the port that it names, if it names one
 run-call : (m : List ℕ) (r : Records) (c : Made) (d : Done m c) (wishes : List Wish) → ((records : Records) → MeteredRunOf (memoryLeft c (d .left)) records wishes)

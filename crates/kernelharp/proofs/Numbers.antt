@@ -1,32 +1,31 @@
 -- A refusal has a number other than 0, and a refused turn leaves its words as they were. Assumes nothing.
-use mathlib.Core.Path.{_≡_, refl}
-use mathlib.Core.Bool.{Bool, not, _&&_}
+use mathlib.Core.Path.{_≡_, refl, _∙_}
+use mathlib.Core.Bool.{Bool, not, _&&_, _||_}
 use mathlib.Core.List.{List, [], _∷_}
-use Prim.Native.Nat.{ℕ}
+use Prim.Native.Nat.{ℕ, _/_, _≤_}
 use native.Mathlib.Omega.{arith}
 use lib.Dec.{eqb, ltb, leb}
-use lib.IntN.{ℤ}
+use lib.ListN.{length}
+use borrow.Author.Tests.{ltb-false}
 use Rattle.model.specs.Base.{same}
 use Rattle.model.specs.Buffers.{ports, areRings, areGrants}
-use Rattle.model.specs.Calls.{TurnEffect, CompleteEffect}
-use Rattle.model.specs.Complete.{completed}
+use Rattle.model.specs.Calls.{TurnEffect, CompleteAnswer, noneDone, allDone, CompleteEffect, mostCompletions}
+use Rattle.model.specs.Complete.{entryWords, completionsIn, areEntries, completed}
 use Rattle.model.specs.NodeSheet.{Entry, entriesOf, wellFormed, rising, hasRequired, valuesOf, paramsOf, choiceBody, numberBody, bodyOf, afterBody, afterBodies, sheetOf}
 use Rattle.model.specs.Port.{View, isClosed}
 use Rattle.model.specs.Ring.{Request}
-use Rattle.model.specs.Rules.{noPort, namesNone, openedBy, refusedCompletion, dueOpen, dueClose, dueTurn, dueComplete}
+use Rattle.model.specs.Rules.{noPort, anyNamesNone, namedTwice, openedBy, refusedCompletion, dueOpen, dueClose, dueTurn, dueComplete}
 use Rattle.model.specs.Turn.{ringAt, idle, settled, overran, servedBy, passedOver, turned}
 use Rattle.model.specs.declared.Body.{Body}
-use Rattle.model.specs.declared.Completed.{Completed}
 use Rattle.model.specs.declared.Number.{Number}
 use Rattle.model.specs.declared.Pending.{Pending}
 use Rattle.model.specs.declared.PortId.{PortId}
 use Rattle.model.specs.declared.Reply.{Reply}
-use Rattle.model.specs.declared.Serial.{Serial}
 use Rattle.model.specs.declared.Sheet.{Sheet}
-use Rattle.model.specs.declared.TagId.{TagId}
 use Rattle.model.specs.declared.Turned.{Turned}
 use Rattle.model.specs.declared.Verdict.{Verdict}
 use Rattle.model.proofs.Base.{by-cond}
+use Rattle.model.proofs.Completions.{length-in, length-statuses}
 
 -- ---- a sheet
 
@@ -131,17 +130,22 @@ turn-keeps v rings grants words =
 
 -- ---- a completion
 
-abbrev pub Numbered : Completed → Type 0
-Numbered (Completed.Refused n) = n ≡ 0 → ⊥
-Numbered (Completed.Done p z y) = Unit
+-- what an answer says of a list of n entries: a refusal has a number, and of a list that is done there is a status for each entry, and room for it
+abbrev pub Numbered : ℕ → CompleteAnswer → Type 0
+Numbered n (noneDone i) = i ≡ 0 → ⊥
+Numbered n (allDone p zs y) = (length zs ≡ n) × (n ≤ mostCompletions)
 
-abbrev pub NumberedIn : CompleteEffect → Type 0
-NumberedIn e = Numbered (e .answer)
+abbrev pub NumberedIn : ℕ → CompleteEffect → Type 0
+NumberedIn n e = Numbered n (e .answer)
 
-pub complete-numbered : (v : View) (rings : List ℕ) (p : PortId) (t : TagId) (s : Serial) (result : ℤ) → NumberedIn (dueComplete v rings p t s result)
+pub complete-numbered : (v : View) (rings : List ℕ) (p : PortId) (entries : List ℕ) → NumberedIn (length entries / entryWords) (dueComplete v rings p entries)
 unfolding dueComplete refusedCompletion completed
-complete-numbered v rings p t s result =
-    by-cond NumberedIn (not (areRings rings)) _ _ (λ _ z. omega arith) (λ _.
-    by-cond NumberedIn (noPort p) _ _ (λ _ z. omega arith) (λ _.
-    by-cond NumberedIn (isClosed (v .state (p .0))) _ _ (λ _ z. omega arith) (λ _.
-    by-cond NumberedIn (namesNone (ringAt v (p .0)) t s (v .tag (p .0) (t .0))) _ _ (λ _ z. omega arith) (λ _. tt))))
+complete-numbered v rings p entries =
+    let cs = completionsIn entries in
+    let N = NumberedIn (length entries / entryWords) in
+    by-cond N (not (areRings rings && areEntries entries)) _ _ (λ _ z. omega arith) (λ _.
+    by-cond N (noPort p) _ _ (λ _ z. omega arith) (λ _.
+    by-cond N (isClosed (v .state (p .0))) _ _ (λ _ z. omega arith) (λ _.
+    by-cond N (ltb mostCompletions (length cs)) _ _ (λ _ z. omega arith) (λ few.
+    by-cond N (anyNamesNone (ringAt v (p .0)) (v .tag (p .0)) cs || namedTwice cs) _ _ (λ _ z. omega arith) (λ _.
+    (length-statuses (v .tag (p .0)) cs ∙ length-in entries, omega (arith, ltb-false mostCompletions (length cs) few, length-in entries)))))))

@@ -1,26 +1,34 @@
 -- What the library promises of a call, as the C interface returns it. Assumes nothing.
 use mathlib.Core.Path.{_≡_, refl, sym, ap, subst, _∙_}
-use mathlib.Core.List.{List}
-use Prim.Native.Nat.{ℕ}
-use lib.IntN.{ℤ}
+use mathlib.Core.List.{List, _∷_, _++_}
+use Prim.Native.Nat.{ℕ, _/_}
+use native.Mathlib.Omega.{arith}
+use lib.ListN.{length, take, drop}
+use lib.Seq.{drop-at, length-take-le}
 use Rattle.wire.specs.Part.{setPart}
 use Rattle.wire.proofs.Part.{setPart-part}
-use Rattle.model.specs.Answers.{refusal, turnedNumber, completedNumber, extentsAt, extentsIn, turnLeft, doneLeft, putNumber, collectedNumber, putLeft, collectedLeft}
-use Rattle.model.specs.Calls.{Call, TurnEffect, CompleteEffect, Effect}
+use Rattle.model.specs.Answers.{refusal, turnedNumber, completedNumber, yesNo, statusWords, extentsAt, extentsIn, turnLeft, manyLeft, putNumber, collectedNumber, putLeft, collectedLeft}
+use Rattle.model.specs.Backend.{viewOf}
+use Rattle.model.specs.Calls.{Call, TurnEffect, CompleteAnswer, noneDone, allDone, CompleteEffect, Effect}
+use Rattle.model.specs.Complete.{entryWords}
 use Rattle.model.specs.Deeds.{deeds}
 use Rattle.model.specs.Plan.{planWords}
 use Rattle.model.specs.Rules.{effectDue}
+use Rattle.model.specs.Turn.{portId}
 use Rattle.model.specs.declared.Collected.{Collected}
-use Rattle.model.specs.declared.Completed.{Completed}
+use Rattle.model.specs.declared.CompletedMany.{CompletedMany}
 use Rattle.model.specs.declared.Put.{Put}
 use Rattle.model.specs.declared.Turned.{Turned}
 use Rattle.asking.specs.Request.{requestIn}
 use Rattle.frontend.specs.Promise.{putWordsLeft, collectWordsLeft, PutPromise, CollectPromise}
+use Rattle.answers.specs.Many.{manyNumber, manyPut}
+use Rattle.memory.specs.Backend.{backendOf}
 use Rattle.memory.specs.Promise.{Promised}
+use Rattle.lists.specs.List.{manyOf, manyFilled, ManyPromised}
 use Rattle.turn.specs.Promise.{TurnPromised}
 use Rattle.kernelharp.specs.Guest.{PutReturned, CollectReturned}
-use Rattle.kernelharp.specs.Promise.{Returned, turnCall, TurnReturned, completeCall, CompleteReturned}
-use Rattle.kernelharp.proofs.Numbers.{WordsKept, TurnKeeps, turn-keeps}
+use Rattle.kernelharp.specs.Promise.{dueOn, Returned, turnCall, TurnReturned, listCall, ListReturned, ManyReturned}
+use Rattle.kernelharp.proofs.Numbers.{WordsKept, TurnKeeps, turn-keeps, Numbered, complete-numbered}
 
 -- the number and the memory
 pub returned : (m : List ℕ) (c : Call) (e : Effect c) (left : List ℕ) (n : ℕ) → Promised m c e left → n ≡ refusal c e → Returned m c n left
@@ -56,17 +64,43 @@ module _ (m rings grants answer pages left : List ℕ) where
         answerDue = h .1 ∙ left-alone r words (w .around) k ∙ ap (λ (e : TurnEffect). turnLeft (e .answer) answer (e .words)) (p .effect);
       }
 
--- ---- kh_complete
+-- ---- kh_complete and kh_complete_many
 
-pub complete-returned : (m rings : List ℕ) (port tag serial : ℕ) (result : ℤ) (answer pages left : List ℕ) (r : Completed) (n : ℕ) (written : List ℕ)
-    → Promised m (completeCall rings port tag serial result) (record { rings = pages; answer = r }) left
-    → (n ≡ completedNumber r) × (written ≡ doneLeft r answer)
-    → CompleteReturned m rings port tag serial result answer n pages written left
-complete-returned m rings port tag serial result answer pages left r n written p h = record {
-  returned = returned m (completeCall rings port tag serial result) _ left n p (h .0);
-  ringsDue = ap (λ (e : CompleteEffect). e .rings) (p .effect);
-  answerDue = h .1 ∙ ap (λ (e : CompleteEffect). doneLeft (e .answer) answer) (p .effect);
-}
+module _ (filled : CompleteAnswer → List ℕ → List ℕ) (m rings : List ℕ) (port : ℕ) (entries answer : List ℕ) where
+  -- by the whole effect
+  pub list-returned : (e : CompleteEffect) (left : List ℕ) (n : ℕ) (written : List ℕ) → Promised m (listCall rings port entries) e left
+      → (n ≡ completedNumber (e .answer)) × (written ≡ filled (e .answer) answer)
+      → ListReturned filled m rings port entries answer n (e .rings) written left
+  list-returned e left n written p h = record {
+    returned = returned m (listCall rings port entries) e left n p (h .0);
+    ringsDue = ap (λ (o : CompleteEffect). o .rings) (p .effect);
+    answerDue = h .1 ∙ ap (λ (o : CompleteEffect). filled (o .answer) answer) (p .effect);
+  }
+
+-- the four words before the statuses, over those that the list left
+put-before : (a : CompleteAnswer) (n : ℕ) (lent : List ℕ) → Numbered n a → length lent ≡ 68 → manyPut (manyOf a) n (manyFilled a lent) ≡ manyLeft a lent
+put-before (noneDone i) n lent h l = refl
+put-before (allDone p zs y) n lent h l =
+    let four : drop 4 (take 4 lent ++ statusWords zs) ≡ statusWords zs = drop-at (take 4 lent) (statusWords zs) 4 (length-take-le 4 lent (omega arith)) in
+    λ i. p .0 ∷ sym (h .0) i ∷ yesNo y ∷ 0 ∷ four i
+
+many-number : (a : CompleteAnswer) → manyNumber (manyOf a) ≡ completedNumber a
+many-number (noneDone i) = refl
+many-number (allDone p zs y) = refl
+
+pub many-returned : (m rings : List ℕ) (port : ℕ) (entries answer pages filled left : List ℕ) (r : CompletedMany) (n : ℕ) (written : List ℕ) → length answer ≡ 68
+    → ManyPromised m rings (portId port) entries answer pages r filled left
+    → (n ≡ manyNumber r) × (written ≡ manyPut r (length entries / entryWords) filled)
+    → ManyReturned m rings port entries answer n pages written left
+unfolding effectDue
+many-returned m rings port entries answer pages filled left r n written l p h =
+    let a = dueOn m (listCall rings port entries) .answer in
+    let d = complete-numbered (viewOf (backendOf m)) rings (portId port) entries in
+    record {
+      returned = record { number = h .0 ∙ ap manyNumber (p .answer) ∙ many-number a; becomes = p .memory; still = p .still };
+      ringsDue = p .rings;
+      answerDue = h .1 ∙ (λ i. manyPut (p .answer i) (length entries / entryWords) (p .filled i)) ∙ put-before a (length entries / entryWords) answer d l;
+    }
 
 -- ---- kh_guest_put and kh_guest_collect
 

@@ -4,14 +4,15 @@ use mathlib.Core.List.{List, [], _∷_}
 use Prim.Native.Nat.{ℕ}
 use native.Mathlib.Omega.{arith}
 use lib.ListN.{length}
-use Rattle.model.specs.Answers.{refusal, turnedNumber, completedNumber, extentsIn, turnLeft, doneLeft}
+use Rattle.model.specs.Answers.{refusal, turnedNumber, completedNumber, extentsIn, turnLeft, doneLeft, manyLeft}
 use Rattle.model.specs.Backend.{Backend, viewOf, next, afterCall}
-use Rattle.model.specs.Calls.{Effect, TurnEffect, CompleteEffect, Event}
+use Rattle.model.specs.Calls.{Effect, TurnEffect, CompleteAnswer, CompleteEffect, Event}
+use Rattle.model.specs.Complete.{theOne}
 use Rattle.model.specs.Demand.{All}
 use Rattle.model.specs.History.{viewAt}
 use Rattle.model.specs.Port.{View}
 use Rattle.model.specs.Rules.{effectDue}
-use Rattle.model.specs.Turn.{portId}
+use Rattle.model.specs.Turn.{portId, tagId, serialOf}
 use Rattle.model.specs.declared.Turned.{Turned}
 use Rattle.model.proofs.Demand3.{demanded}
 use Rattle.model.proofs.Refinement.{Told, told-view}
@@ -20,14 +21,14 @@ use Rattle.memory.specs.Promise.{Promised}
 use Rattle.memory.specs.Words.{zeros}
 use Rattle.memory.proofs.Changes.{becomes-exact}
 use Rattle.memory.proofs.Zeros.{backend-zeros, zeros-exact, zeros-memory}
-use Rattle.backend.proofs.Every.{CallOutcome, outcome}
-use Rattle.backend.proofs.Runs.{promised-told, told-clean, zeros-told}
-use Rattle.kernelharp.specs.Decode.{replyOf, turnedOf, completedOf}
-use Rattle.kernelharp.specs.Promise.{dueOn, Returned, turnCall, completeCall}
-use Rattle.kernelharp.specs.Run.{Made, khOpen, khClose, khTurn, khComplete, Outcome, Step, memoryLeft, memoryAfter, callOf, effectOf, eventOf, eventsAfter, historyOf, Promise, Run, BytesLent, outcomeOf, WordForWord, Holds, RunOf, Theorem}
-use Rattle.kernelharp.proofs.Numbers.{open-numbered, close-numbered, WordsKept, TurnKeeps, turn-keeps, NumberedIn, complete-numbered}
-use Rattle.kernelharp.proofs.Decode.{reply-decoded, NumberedTurned, turned-decoded, completed-decoded, Long, turn-long, extents-decoded}
-use Rattle.kernelharp.proofs.Returns.{returned}
+use Rattle.runs.proofs.Every.{CallOutcome, outcome}
+use Rattle.runs.proofs.Runs.{promised-told, told-clean, zeros-told}
+use Rattle.kernelharp.specs.Decode.{replyOf, turnedOf, completedOf, manyOf}
+use Rattle.kernelharp.specs.Promise.{dueOn, Returned, turnCall, listCall, completeCall}
+use Rattle.kernelharp.specs.Run.{Made, khOpen, khClose, khTurn, khComplete, khCompleteMany, Outcome, Step, memoryLeft, memoryAfter, callOf, effectOf, eventOf, eventsAfter, historyOf, Promise, Run, BytesLent, outcomeOf, WordForWord, Holds, RunOf, Theorem}
+use Rattle.kernelharp.proofs.Numbers.{open-numbered, close-numbered, WordsKept, TurnKeeps, turn-keeps, complete-numbered}
+use Rattle.kernelharp.proofs.Decode.{reply-decoded, NumberedTurned, turned-decoded, completed-decoded, many-decoded, Long, turn-long, extents-decoded}
+use Rattle.kernelharp.proofs.Returns.{returned, list-returned}
 
 -- ---- what is decoded is what is due
 
@@ -56,11 +57,11 @@ turn-effect e answer n pages words k l h p w =
     let x : extentsIn words ≡ e .words = extents-left (e .answer) (e .words) answer words k d l w in
     λ i. record { rings = p i; words = x i; answer = a i }
 
-complete-effect : (e : CompleteEffect) (answer : List ℕ) (n : ℕ) (pages words : List ℕ) → NumberedIn e → n ≡ completedNumber (e .answer)
-    → pages ≡ e .rings → words ≡ doneLeft (e .answer) answer
-    → _≡_ {A = CompleteEffect} (record { rings = pages; answer = completedOf n words }) e
-complete-effect e answer n pages words d h p w =
-    let a : completedOf n words ≡ e .answer = ap (λ (z : ℕ). completedOf z words) h ∙ completed-decoded (e .answer) answer words d w in
+-- whatever the function's words are
+list-effect : (decoded : ℕ → List ℕ → CompleteAnswer) (e : CompleteEffect) (n : ℕ) (pages words : List ℕ) → n ≡ completedNumber (e .answer) → pages ≡ e .rings
+    → decoded (completedNumber (e .answer)) words ≡ e .answer → _≡_ {A = CompleteEffect} (record { rings = pages; answer = decoded n words }) e
+list-effect decoded e n pages words h p w =
+    let a : decoded n words ≡ e .answer = ap (λ (z : ℕ). decoded z words) h ∙ w in
     λ i. record { rings = p i; answer = a i }
 
 -- so the step's own event is the one due
@@ -73,9 +74,13 @@ effect-due m (khTurn rings grants answer) o r =
     (turn-keeps (viewOf (backendOf m)) rings grants (extentsIn answer)) (turn-long (viewOf (backendOf m)) rings grants (extentsIn answer))
     (r .returned .number) (r .ringsDue) (r .answerDue)
 effect-due m (khComplete rings p t s x answer) o r =
-    complete-effect (dueOn m (completeCall rings p t s x)) answer (o .number) (o .rings) (o .answer)
-    (complete-numbered (viewOf (backendOf m)) rings _ _ _ x)
-    (r .returned .number) (r .ringsDue) (r .answerDue)
+    let e = dueOn m (completeCall rings p t s x) in
+    list-effect completedOf e (o .number) (o .rings) (o .answer) (r .returned .number) (r .ringsDue)
+    (completed-decoded (e .answer) answer (o .answer) (complete-numbered (viewOf (backendOf m)) rings (portId p) (theOne (tagId t) (serialOf s) x)) (r .answerDue))
+effect-due m (khCompleteMany rings p entries answer) o r =
+    let e = dueOn m (listCall rings p entries) in
+    list-effect manyOf e (o .number) (o .rings) (o .answer) (r .returned .number) (r .ringsDue)
+    (many-decoded _ (e .answer) answer (o .answer) (complete-numbered (viewOf (backendOf m)) rings (portId p) entries) (r .answerDue))
 
 -- what every function returned
 pub number-of : (c : Made) → Outcome c → ℕ
@@ -83,6 +88,7 @@ number-of (khOpen p sheet) o = o .number
 number-of (khClose p) o = o .number
 number-of (khTurn rings grants answer) o = o .number
 number-of (khComplete rings p t s x answer) o = o .number
+number-of (khCompleteMany rings p entries answer) o = o .number
 
 pub step-returned : (m : List ℕ) (c : Made) (o : Outcome c) → Promise m c o → Returned m (callOf c) (number-of c o) (memoryLeft c o)
 unfolding number-of
@@ -90,6 +96,7 @@ step-returned m (khOpen p sheet) o r = r
 step-returned m (khClose p) o r = r
 step-returned m (khTurn rings grants answer) o r = r .returned
 step-returned m (khComplete rings p t s x answer) o r = r .returned
+step-returned m (khCompleteMany rings p entries answer) o r = r .returned
 
 -- a promise of the C function is the promise of the call, with the effect decoded
 step-promised : (m : List ℕ) (c : Made) (o : Outcome c) → Promise m c o → Promised m (callOf c) (effectOf c o) (memoryLeft c o)
@@ -108,6 +115,8 @@ left-due m (khClose p) o r x = λ i. record { number = r .number i; memory = r .
 left-due m (khTurn rings grants answer) o r x =
     λ i. record { number = r .returned .number i; rings = r .ringsDue i; answer = r .answerDue i; memory = r .returned .becomes .words x i }
 left-due m (khComplete rings p t s x answer) o r y =
+    λ i. record { number = r .returned .number i; rings = r .ringsDue i; answer = r .answerDue i; memory = r .returned .becomes .words y i }
+left-due m (khCompleteMany rings p entries answer) o r y =
     λ i. record { number = r .returned .number i; rings = r .ringsDue i; answer = r .answerDue i; memory = r .returned .becomes .words y i }
 
 -- what the step's own event makes of the backend is what the one due makes
@@ -186,11 +195,16 @@ call-done m (khTurn rings grants answer) o =
       promise = record { returned = returned m c e (o .left) _ (o .promised) refl; ringsDue = refl; answerDue = refl };
     }
 call-done m (khComplete rings p t s x answer) o =
-    let c = completeCall rings p t s x in
-    let e = dueOn m c in
+    let e = dueOn m (completeCall rings p t s x) in
     record {
       left = outcomeOf (khComplete rings p t s x answer) e (o .left);
-      promise = record { returned = returned m c e (o .left) _ (o .promised) refl; ringsDue = refl; answerDue = refl };
+      promise = list-returned doneLeft m rings p (theOne (tagId t) (serialOf s) x) answer e (o .left) _ _ (o .promised) (refl, refl);
+    }
+call-done m (khCompleteMany rings p entries answer) o =
+    let e = dueOn m (listCall rings p entries) in
+    record {
+      left = outcomeOf (khCompleteMany rings p entries answer) e (o .left);
+      promise = list-returned manyLeft m rings p entries answer e (o .left) _ _ (o .promised) (refl, refl);
     }
 
 run-every : (m : List ℕ) → Exact m → (calls : List Made) → All BytesLent calls → RunOf m calls

@@ -19,7 +19,7 @@ use Rattle.frontend.specs.Words.{guestOf, guestZeros}
 use Rattle.halves.specs.Claim.{Holds, NotOpening, ForGuest}
 use Rattle.halves.specs.System.{Gathered, System}
 use Rattle.kernelharp.specs.Guest.{GuestLeft, PutReturned, CollectReturned}
-use Rattle.kernelharp.specs.Run.{Made, khOpen, khClose, khTurn, khComplete, Outcome, Left, Step, memoryLeft, memoryAfter, callOf, eventOf, historyOf, Promise, Run, BytesLent}
+use Rattle.kernelharp.specs.Run.{Made, khOpen, khClose, khTurn, khComplete, khCompleteMany, Outcome, Left, Step, memoryLeft, memoryAfter, callOf, eventOf, historyOf, Promise, Run, BytesLent}
 
 -- ---- steps
 
@@ -35,6 +35,7 @@ pageLeft k page (khOpen p sheet) o = page
 pageLeft k page (khClose p) o = page
 pageLeft k page (khTurn rings grants answer) o = pagesOf guestRing (o .rings) k
 pageLeft k page (khComplete rings p t s x answer) o = pagesOf guestRing (o .rings) k
+pageLeft k page (khCompleteMany rings p entries answer) o = pagesOf guestRing (o .rings) k
 
 -- What a call on the backend is lent: rings of the right length, which hold bytes, and the guest's page among them. Port k is not opened again (rules 16.21 and 16.22).
 abbrev pub LendsPage : ℕ → List ℕ → Made → Type 0
@@ -42,6 +43,7 @@ LendsPage k page (khOpen p sheet) = k ≡ p → ⊥
 LendsPage k page (khClose p) = Unit
 LendsPage k page (khTurn rings grants answer) = IsBytes rings × (length rings ≡ ringsLength) × (pagesOf guestRing rings k ≡ page)
 LendsPage k page (khComplete rings p t s x answer) = IsBytes rings × (length rings ≡ ringsLength) × (pagesOf guestRing rings k ≡ page)
+LendsPage k page (khCompleteMany rings p entries answer) = IsBytes rings × (length rings ≡ ringsLength) × (pagesOf guestRing rings k ≡ page)
 
 -- A request's words are words. An array of u64 holds such; a list of numbers, which stands for one here, might not.
 abbrev pub AreWords : List ℕ → Type 0
@@ -130,6 +132,7 @@ withPage k page (khOpen p sheet) = khOpen p sheet
 withPage k page (khClose p) = khClose p
 withPage k page (khTurn rings grants answer) = khTurn (setPages guestRing rings k page) grants answer
 withPage k page (khComplete rings p t s x answer) = khComplete (setPages guestRing rings k page) p t s x answer
+withPage k page (khCompleteMany rings p entries answer) = khCompleteMany (setPages guestRing rings k page) p entries answer
 
 -- any arguments, in rings of bytes that have the right length; port k is not opened again
 abbrev pub MayWish : ℕ → Wish → Type 0
@@ -139,6 +142,7 @@ MayWish k (makesCall (khOpen p sheet)) = k ≡ p → ⊥
 MayWish k (makesCall (khClose p)) = Unit
 MayWish k (makesCall (khTurn rings grants answer)) = IsBytes rings × (length rings ≡ ringsLength)
 MayWish k (makesCall (khComplete rings p t s x answer)) = IsBytes rings × (length rings ≡ ringsLength)
+MayWish k (makesCall (khCompleteMany rings p entries answer)) = IsBytes rings × (length rings ≡ ringsLength)
 
 -- the steps of a run are just what was wished
 abbrev pub AsWished : ℕ → List ℕ → List HalfStep → List Wish → Type 0

@@ -6,12 +6,12 @@ use mathlib.Core.List.{List, [], _∷_, map}
 use mathlib.Core.Option.{none, some}
 use Prim.Native.Nat.{ℕ}
 use lib.Dec.{eqb}
-use Rattle.model.specs.Counters.{zeroCounters, turnMetered, doneMetered}
+use Rattle.model.specs.Counters.{zeroCounters, turnMetered, doneMetered, manyMetered}
 use Rattle.model.specs.Counts.{Act, ended, zeroed, WellHanded, KeptWell, Counted}
 use Rattle.model.specs.Demand.{All}
 use Rattle.model.specs.declared.Counters.{Counters}
 use Rattle.memory.specs.Words.{zeros}
-use Rattle.kernelharp.specs.Run.{Made, khOpen, khClose, khTurn, khComplete, Outcome, Step, memoryLeft, eventOf, Promise, BytesLent}
+use Rattle.kernelharp.specs.Run.{Made, khOpen, khClose, khTurn, khComplete, khCompleteMany, Outcome, Step, memoryLeft, eventOf, Promise, BytesLent}
 
 -- ---- what a host did
 
@@ -30,13 +30,14 @@ Records = ℕ → Counters
 abbrev pub stored : ℕ → Counters → Records → Records
 stored k c records j = cond (eqb j k) c (records j)
 
--- what kh_meter_turn and kh_meter_completion promise of the record that they were lent, by the number returned and the words left: their `ensures` (rules 15.10 and
--- 15.11). Of kh_open and kh_close there is no answer to hand over.
+-- what kh_meter_turn, kh_meter_completion and kh_meter_many promise of the record that they were lent, by the number returned and the words left: their `ensures`
+-- (rules 15.10 to 15.12). Of kh_open and kh_close there is no answer to hand over.
 abbrev pub MeterPromise : (c : Made) → Outcome c → (lent left : Counters) → Type 0
 MeterPromise (khOpen p sheet) o lent left = ⊥
 MeterPromise (khClose p) o lent left = ⊥
 MeterPromise (khTurn rings grants answer) o lent left = left ≡ turnMetered (o .number) (o .answer) lent
 MeterPromise (khComplete rings p t s x answer) o lent left = left ≡ doneMetered (o .number) (o .answer) lent
+MeterPromise (khCompleteMany rings p entries answer) o lent left = left ≡ manyMetered (o .number) (o .answer) lent
 
 -- From a memory and records: each call gets the memory as the last one left it, each meter function the record as it stands, and each function keeps its promise.
 abbrev pub MeteredRun : List ℕ → Records → List HostStep → Type 0

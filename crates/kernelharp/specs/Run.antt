@@ -5,7 +5,7 @@ use mathlib.Core.Path.{_≡_}
 use mathlib.Core.List.{List, [], _∷_, map}
 use Prim.Native.Nat.{ℕ}
 use lib.IntN.{ℤ}
-use Rattle.model.specs.Answers.{replyNumber, turnedNumber, completedNumber, extentsIn, turnLeft, doneLeft}
+use Rattle.model.specs.Answers.{replyNumber, turnedNumber, completedNumber, extentsIn, turnLeft, doneLeft, manyLeft}
 use Rattle.model.specs.Backend.{Backend, emptyBackend, viewOf, next}
 use Rattle.model.specs.Calls.{Call, Open, Close, Effect, Event}
 use Rattle.model.specs.Demand.{All, LendsBytes, Demand3}
@@ -14,24 +14,25 @@ use Rattle.model.specs.Rules.{effectDue}
 use Rattle.model.specs.Turn.{portId}
 use Rattle.memory.specs.Backend.{backendOf, memoryOf, Clean}
 use Rattle.memory.specs.Words.{zeros}
-use Rattle.kernelharp.specs.Decode.{replyOf, turnedOf, completedOf}
-use Rattle.kernelharp.specs.Promise.{Returned, turnCall, TurnReturned, completeCall, CompleteReturned}
+use Rattle.kernelharp.specs.Decode.{replyOf, turnedOf, completedOf, manyOf}
+use Rattle.kernelharp.specs.Promise.{Returned, turnCall, TurnReturned, listCall, completeCall, CompleteReturned, ManyReturned}
 
 -- ---- steps
 
--- a call of a C function as it was made: any of the four, with any arguments and whatever it is lent (rules 1.5 and 12.2)
+-- a call of a C function as it was made: any of the five, with any arguments and whatever it is lent (rules 1.5, 6.23 and 12.2)
 pub data Made : Type 0 where
   khOpen : (port : ℕ) (sheet : List ℕ) → Made
   khClose : (port : ℕ) → Made
   khTurn : (rings grants answer : List ℕ) → Made
   khComplete : (rings : List ℕ) (port tag serial : ℕ) (result : ℤ) (answer : List ℕ) → Made
+  khCompleteMany : (rings : List ℕ) (port : ℕ) (entries answer : List ℕ) → Made
 
 -- what kh_open and kh_close leave (rules 1.5 and 14.5)
 pub record Left : Type 0 where
   pub number : ℕ
   pub memory : List ℕ
 
--- what kh_turn and kh_complete leave (rules 1.5, 14.5, 14.7 and 14.8)
+-- what kh_turn and the two of a completion leave (rules 1.5, 14.5, 14.7, 14.8 and 14.15)
 pub record LeftAll : Type 0 where
   pub number : ℕ
   pub rings : List ℕ
@@ -44,6 +45,7 @@ Outcome (khOpen p sheet) = Left
 Outcome (khClose p) = Left
 Outcome (khTurn rings grants answer) = LeftAll
 Outcome (khComplete rings p t s x answer) = LeftAll
+Outcome (khCompleteMany rings p entries answer) = LeftAll
 
 -- a call with what it left (rule 12.6)
 pub record Step : Type 0 where
@@ -56,6 +58,7 @@ memoryLeft (khOpen p sheet) o = o .memory
 memoryLeft (khClose p) o = o .memory
 memoryLeft (khTurn rings grants answer) o = o .memory
 memoryLeft (khComplete rings p t s x answer) o = o .memory
+memoryLeft (khCompleteMany rings p entries answer) o = o .memory
 
 -- and that a run of steps left
 abbrev pub memoryAfter : List ℕ → List Step → List ℕ
@@ -70,6 +73,7 @@ callOf (khOpen p sheet) = Open (portId p) sheet
 callOf (khClose p) = Close (portId p)
 callOf (khTurn rings grants answer) = turnCall rings grants answer
 callOf (khComplete rings p t s x answer) = completeCall rings p t s x
+callOf (khCompleteMany rings p entries answer) = listCall rings p entries
 
 -- what it left and answered, decoded from its number, its rings and its answer's words (rule 12.6)
 abbrev pub effectOf : (c : Made) → Outcome c → Effect (callOf c)
@@ -78,6 +82,7 @@ effectOf (khClose p) o = replyOf (o .number)
 effectOf (khTurn rings grants answer) o =
     record { rings = o .rings; words = extentsIn (o .answer); answer = turnedOf (o .number) (o .answer) }
 effectOf (khComplete rings p t s x answer) o = record { rings = o .rings; answer = completedOf (o .number) (o .answer) }
+effectOf (khCompleteMany rings p entries answer) o = record { rings = o .rings; answer = manyOf (o .number) (o .answer) }
 
 -- a step as an event: no field of the backend is read (rule 12.6)
 abbrev pub eventOf : Step → Event
@@ -100,6 +105,7 @@ Promise m (khOpen p sheet) o = Returned m (Open (portId p) sheet) (o .number) (o
 Promise m (khClose p) o = Returned m (Close (portId p)) (o .number) (o .memory)
 Promise m (khTurn rings grants answer) o = TurnReturned m rings grants answer (o .number) (o .rings) (o .answer) (o .memory)
 Promise m (khComplete rings p t s x answer) o = CompleteReturned m rings p t s x answer (o .number) (o .rings) (o .answer) (o .memory)
+Promise m (khCompleteMany rings p entries answer) o = ManyReturned m rings p entries answer (o .number) (o .rings) (o .answer) (o .memory)
 
 -- from a memory: each call gets it as the last one left it (rule 12.4), and each function keeps its promise
 abbrev pub Run : List ℕ → List Step → Type 0
@@ -112,7 +118,7 @@ BytesLent c = LendsBytes (callOf c)
 
 -- ---- what holds
 
--- an effect and a memory, as a function leaves them: the number, the rings, every word of the answer and of the memory (rules 14.5 to 14.8)
+-- an effect and a memory, as a function leaves them: the number, the rings, every word of the answer and of the memory (rules 14.5 to 14.8 and 14.15)
 abbrev pub outcomeOf : (c : Made) → Effect (callOf c) → List ℕ → Outcome c
 outcomeOf (khOpen p sheet) e m = record { number = replyNumber e; memory = m }
 outcomeOf (khClose p) e m = record { number = replyNumber e; memory = m }
@@ -120,6 +126,8 @@ outcomeOf (khTurn rings grants answer) e m =
     record { number = turnedNumber (e .answer); rings = e .rings; answer = turnLeft (e .answer) answer (e .words); memory = m }
 outcomeOf (khComplete rings p t s x answer) e m =
     record { number = completedNumber (e .answer); rings = e .rings; answer = doneLeft (e .answer) answer; memory = m }
+outcomeOf (khCompleteMany rings p entries answer) e m =
+    record { number = completedNumber (e .answer); rings = e .rings; answer = manyLeft (e .answer) answer; memory = m }
 
 -- Each step, after the events h and with b the backend that they made, left exactly what the rules give on that history, and the memory that its own event makes
 -- of that backend (rules 12.31 and 14.12).

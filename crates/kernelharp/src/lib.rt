@@ -9,6 +9,7 @@ ghost use Rattle.memory.specs.Layout.{memoryWords};
 mod closing;
 mod collecting;
 mod completing;
+mod listing;
 mod metering;
 mod opening;
 mod putting;
@@ -17,19 +18,21 @@ mod turning;
 pub use closing::kh_close;
 pub use collecting::kh_guest_collect;
 pub use completing::kh_complete;
+pub use listing::kh_complete_many;
 pub use metering::kh_meter_completion;
+pub use metering::kh_meter_many;
 pub use metering::kh_meter_turn;
 pub use opening::kh_open;
 pub use putting::kh_guest_put;
 pub use turning::kh_turn;
 
 // major * 10000 + minor * 100 + patch
-const VERSION: u32 = 800;
+const VERSION: u32 = 900;
 
 // Which version the archive is.
 #[no_mangle]
 pub extern "C" fn kh_version() -> u32
-    ensures { λ n. ⌜ n ≡ 800 ⌝ }
+    ensures { λ n. ⌜ n ≡ 900 ⌝ }
 {
     VERSION
 }

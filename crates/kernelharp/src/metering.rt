@@ -1,13 +1,15 @@
-// kh_meter_turn and kh_meter_completion: a host's record of a port, raised by what a call returned and left.
+// kh_meter_turn, kh_meter_completion and kh_meter_many: a host's record of a port, raised by what a call returned and left.
+use counters::after_many;
 use counters::done_counter;
 use counters::raise;
 use counters::status_counter;
 use counters::taken_counter;
 use model::Counters;
 use model::buffer::DONE_WORDS;
+use model::buffer::MANY_WORDS;
 use model::buffer::TURN_WORDS;
 ghost use mathlib.Core.Path.{_≡_};
-ghost use Rattle.model.specs.Counters.{turnMetered, doneMetered};
+ghost use Rattle.model.specs.Counters.{turnMetered, doneMetered, manyMetered};
 
 #[no_mangle]
 pub extern "C" fn kh_meter_turn(meter: &mut Counters, returned: u32, answer: &[u64; TURN_WORDS])
@@ -26,4 +28,12 @@ pub extern "C" fn kh_meter_completion(
     ensures { λ _. ⌜ now (meter .exit) ≡ doneMetered returned (now (answer .entry)) (now (meter .entry)) ⌝ }
 {
     raise(meter, done_counter(returned, answer));
+}
+
+// A list of completions raises any of the three numbers, each any number of times: the record is raised by value and stored whole.
+#[no_mangle]
+pub extern "C" fn kh_meter_many(meter: &mut Counters, returned: u32, answer: &[u64; MANY_WORDS])
+    ensures { λ _. ⌜ now (meter .exit) ≡ manyMetered returned (now (answer .entry)) (now (meter .entry)) ⌝ }
+{
+    *meter = after_many(*meter, returned, answer);
 }

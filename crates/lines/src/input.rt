@@ -4,7 +4,7 @@ ghost use lib.ListN.{length};
 ghost use Rattle.io.specs.Counts.{Counts};
 
 // A line has at most so many.
-pub const NUMBERS: usize = 128;
+pub const NUMBERS: usize = 256;
 
 // A number, and where the line goes on behind it.
 struct Read {
@@ -66,21 +66,22 @@ fn number(line: &[u8], from: usize) -> Read {
     Read { value: v, next: i }
 }
 
-// The numbers of a line, each also as a byte; returns how many there are, at most as many as there are places for bytes.
-pub fn numbers(line: &[u8], words: &mut [u64; NUMBERS], bytes: &mut [u8]) -> usize
-    ensures { λ r. ⌜ Counts r (now (bytes .exit)) ⌝ }
+// The numbers of a line, each also as a byte; returns how many there are, at most as many as there are places for.
+pub fn numbers(line: &[u8], words: &mut [u64], bytes: &mut [u8]) -> usize
+    ensures { λ r. ⌜ Counts r (now (words .exit)) × Counts r (now (bytes .exit)) ⌝ }
 {
     let mut at: usize = 0;
     let mut i: usize = 0;
     while i < bytes.len() {
+        if words.len() <= i {
+            return i;
+        }
         at = skip(line, at);
         if line.len() <= at {
             return i;
         }
         let r = number(line, at);
-        if i < NUMBERS {
-            words[i] = r.value;
-        }
+        words[i] = r.value;
         bytes[i] = (r.value % 256) as u8;
         at = r.next;
         i += 1;

@@ -1,6 +1,8 @@
 // Answers, as text.
+use answers::many::MANY_STATUSES;
 use libc::STDOUT_FILENO;
 use model::Completed;
+use model::CompletedMany;
 use model::Counters;
 use model::Plan;
 use model::PortId;
@@ -9,10 +11,12 @@ use model::Serial;
 use model::Status;
 use model::TagId;
 use model::Turned;
+use model::buffer::MANY_WORDS;
 use model::buffer::RINGS_BYTES;
 use model::buffer::TURN_EXTENTS;
 use model::buffer::TURN_WORDS;
 use model::limit::EXTENT_WORDS;
+use model::limit::MOST_COMPLETIONS;
 use model::limit::PLAN_WORDS;
 
 pub fn text(s: &[u8]) {
@@ -132,6 +136,39 @@ pub fn completed(c: Completed) {
             text(b" done port");
             word(port.0 as u64);
             status(s);
+            notify(yes);
+        }
+    }
+}
+
+// A status of a list, by its word without the sign. One that no entry has shows only where it is not zero.
+fn status_word(s: u64, counts: bool) {
+    if s != 0 {
+        text(b" -");
+        io::print_decimal(STDOUT_FILENO, s);
+        return;
+    }
+    if counts {
+        text(b" 0");
+    }
+}
+
+// The statuses of a list of n entries.
+fn statuses(answer: &[u64; MANY_WORDS], n: usize) {
+    let mut i: usize = 0;
+    while i < MOST_COMPLETIONS {
+        status_word(answer[MANY_STATUSES + i], i < n);
+        i += 1;
+    }
+}
+
+// The answer to a list of so many completions, with its statuses.
+pub fn listed(c: CompletedMany, answer: &[u64; MANY_WORDS], count: usize) {
+    match c {
+        CompletedMany::Refused(n) => refused(n),
+        CompletedMany::Done(_, yes) => {
+            text(b" done");
+            statuses(answer, count);
             notify(yes);
         }
     }

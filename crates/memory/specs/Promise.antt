@@ -1,4 +1,4 @@
--- What every call promises, one definition for all (rules 11.1 and 11.2): its effect is the one due on what the backend shows of itself, the backend after it
+-- What every call promises, one definition for all (rules 11.1 and 11.2; of a list of completions, whose answer is in two parts, crates/lists has the same field by field): its effect is the one due on what the backend shows of itself, the backend after it
 -- is what the event makes of it, every word of memory too; and a call that does nothing leaves the memory as it was, whatever it held.
 use mathlib.Core.Path.{_≡_}
 use mathlib.Core.List.{List, []}

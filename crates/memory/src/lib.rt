@@ -31,6 +31,7 @@ pub use port::set_port;
 pub use port::set_produced;
 pub use port::set_state;
 pub use port::state;
+pub use tag::serial_at;
 pub use tag::set_tag;
 pub use tag::tag_at;
 

@@ -43,6 +43,14 @@ pub fn tag_at(m: &[u64; WORDS], k: usize, t: usize) -> Tag
     }
 }
 
+// One field of it: a list of completions asks for the serial before it touches the rest.
+pub fn serial_at(m: &[u64; WORDS], k: usize, t: usize) -> u32
+    requires { ⌜ (k < ports) × (t < tags) ⌝ }
+    ensures { λ r. ⌜ r ≡ backendOf (now (m .entry)) .tag k t .serial .0 ⌝ }
+{
+    narrow(m, k, PORT_WORDS + TAG_WORDS * t + SERIAL)
+}
+
 fn tag_words(x: Tag) -> [u64; TAG_WORDS]
     ensures { λ r. ⌜ r ≡ tagWordsOf x ⌝ }
 {

@@ -35,6 +35,10 @@ pub or-right : (a b : Bool) → a || b ≡ false → b ≡ false
 or-right true b e = clash refl e
 or-right false b e = e
 
+pub or-true : (b : Bool) → b || true ≡ true
+or-true true = refl
+or-true false = refl
+
 pub and-false : (b : Bool) → b && false ≡ false
 and-false true = refl
 and-false false = refl

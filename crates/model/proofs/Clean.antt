@@ -3,8 +3,7 @@ use mathlib.Core.Path.{_≡_, refl, sym, _∙_}
 use mathlib.Core.Bool.{false, not}
 use Prim.Native.Nat.{ℕ}
 use native.Mathlib.Nat.{le-refl}
-use Rattle.model.specs.Port.{Holder, free, held, isFree, isBusy, closedPort, zeroTag}
-use Rattle.model.specs.Rules.{tagOf}
+use Rattle.model.specs.Port.{Holder, free, held, isFree, isBusy, closedPort, zeroTag, tagOf}
 use Rattle.model.specs.History.{Book, noBook, holder, standing}
 use Rattle.model.specs.declared.Port.{Port}
 use Rattle.model.specs.declared.State.{State}

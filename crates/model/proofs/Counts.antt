@@ -1,37 +1,35 @@
 -- The counters hold the counts of the history, for every list of calls and zeroings. Assumes nothing but what the theorem states.
 use mathlib.Core.Path.{_≡_, refl, sym, subst}
 use mathlib.Core.Logic.{_⊎_, inl, inr}
-use mathlib.Core.Bool.{Bool, true, false, not, cond}
-use mathlib.Core.List.{List, [], _∷_}
+use mathlib.Core.Bool.{Bool, true, false, not, cond, _&&_, _||_}
+use mathlib.Core.List.{List, [], _∷_, map}
 use mathlib.Core.Option.{Option}
 use Prim.Native.Nat.{ℕ, suc, min}
 use native.Mathlib.Omega.{arith}
-use lib.Dec.{eqb}
-use lib.IntN.{ℤ}
+use lib.Dec.{eqb, ltb}
+use lib.ListN.{length}
 use Rattle.model.specs.Buffers.{areRings}
 use Rattle.model.specs.Ring.{statusBits}
 use Rattle.model.specs.Port.{isClosed, View}
-use Rattle.model.specs.Calls.{Call, Open, Close, Turn, Complete, CompleteEffect, Effect, Event}
+use Rattle.model.specs.Calls.{Call, Open, Close, Turn, Complete, CompleteAnswer, noneDone, allDone, CompleteEffect, Effect, Event, mostCompletions}
 use Rattle.model.specs.Turn.{ringAt}
-use Rattle.model.specs.Complete.{completed}
-use Rattle.model.specs.Rules.{noPort, namesNone, refusedCompletion, dueComplete, effectDue, due}
-use Rattle.model.specs.Deeds.{answering, finishing}
+use Rattle.model.specs.Complete.{Completion, completionsIn, areEntries, completed}
+use Rattle.model.specs.Rules.{noPort, anyNamesNone, namedTwice, refusedCompletion, dueComplete, effectDue, due}
+use Rattle.model.specs.Deeds.{answering, finishing, finishings}
 use Rattle.model.specs.Backend.{Backend, emptyBackend, eventOn, afterCall}
-use Rattle.model.specs.History.{Response, Book, said, entry, book, viewAt}
+use Rattle.model.specs.History.{Response, Book, said, entry, post, posts, book, viewAt}
 use Rattle.model.specs.Demand.{All, count}
-use Rattle.model.specs.Counters.{zeroCounters, most, oneMore, raisedBy, statusCounter}
-use Rattle.model.specs.Counts.{Act, ended, zeroed, eventsIn, takenSince, givenSince, handed, went, countersOf, WellHanded, KeptWell, Counts, Counted, Doing, calls, zeroes, actsFrom, DoingBytes, CountersTheorem}
-use Rattle.model.specs.declared.Completed.{Completed}
+use Rattle.model.specs.Counters.{zeroCounters, most, oneMore, raisedBy, raisedByAll, statusCounter}
+use Rattle.model.specs.Counts.{Act, ended, zeroed, eventsIn, takenAmong, givenAmong, takenSince, givenSince, handed, went, countersOf, WellHanded, KeptWell, Counts, Counted, Doing, calls, zeroes, actsFrom, DoingBytes, CountersTheorem}
 use Rattle.model.specs.declared.Counter.{Counter}
 use Rattle.model.specs.declared.Counters.{Counters}
 use Rattle.model.specs.declared.PortId.{PortId}
 use Rattle.model.specs.declared.Reply.{Reply}
-use Rattle.model.specs.declared.Serial.{Serial}
 use Rattle.model.specs.declared.Status.{Status}
-use Rattle.model.specs.declared.TagId.{TagId}
 use Rattle.model.specs.declared.Turned.{Turned}
 use Rattle.model.proofs.Base.{by-cond, clash}
 use Rattle.model.proofs.Conservation.{AsTold}
+use Rattle.model.proofs.Completions.{length-statuses}
 use Rattle.model.proofs.Permitted.{sound}
 use Rattle.model.proofs.Refinement.{Told, told-empty, told-step}
 
@@ -94,35 +92,38 @@ module _ (t : ℕ) (l : List Response) (c : Counters) (h : Counts t l c) where
     answered true e = give-one z (suc t) l a (raisedBy Counter.Taken c) (e refl) (take-one t l c h)
     answered false e = h
 
-    finished : (b : Bool) → (b ≡ true → a .status ≡ statusBits z) → Counts (cond b t t) (cond b (a ∷ l) l) (cond b (raisedBy (statusCounter z) c) c)
-    finished true e = give-one z t l a c (e refl) h
-    finished false e = h
+-- a completion that is done names the port that the call named, and has a status for each entry
+abbrev NamesCalled : PortId → List Completion → CompleteAnswer → Type 0
+NamesCalled p cs (noneDone n) = Unit
+NamesCalled p cs (allDone q zs y) = (q .0 ≡ p .0) × (length zs ≡ length cs)
 
--- a completion that is done names the port that the call named
-abbrev NamesCalled : PortId → Completed → Type 0
-NamesCalled p (Completed.Refused n) = Unit
-NamesCalled p (Completed.Done q z y) = q .0 ≡ p .0
+abbrev NC : PortId → List Completion → CompleteEffect → Type 0
+NC p cs e = NamesCalled p cs (e .answer)
 
-names-called : (v : View) (rings : List ℕ) (p : PortId) (t : TagId) (s : Serial) (result : ℤ) → NamesCalled p (dueComplete v rings p t s result .answer)
+names-called : (v : View) (rings : List ℕ) (p : PortId) (entries : List ℕ) → NC p (completionsIn entries) (dueComplete v rings p entries)
 unfolding dueComplete refusedCompletion completed
-names-called v rings p t s result =
-    by-cond (λ (e : CompleteEffect). NamesCalled p (e .answer)) (not (areRings rings)) _ _ (λ _. tt) (λ _.
-    by-cond (λ (e : CompleteEffect). NamesCalled p (e .answer)) (noPort p) _ _ (λ _. tt) (λ _.
-    by-cond (λ (e : CompleteEffect). NamesCalled p (e .answer)) (isClosed (v .state (p .0))) _ _ (λ _. tt) (λ _.
-    by-cond (λ (e : CompleteEffect). NamesCalled p (e .answer)) (namesNone (ringAt v (p .0)) t s (v .tag (p .0) (t .0))) _ _ (λ _. tt) (λ _. refl))))
+names-called v rings p entries =
+    let cs = completionsIn entries in
+    let tags = v .tag (p .0) in
+    by-cond (NC p cs) (not (areRings rings && areEntries entries)) _ _ (λ _. tt) (λ _.
+    by-cond (NC p cs) (noPort p) _ _ (λ _. tt) (λ _.
+    by-cond (NC p cs) (isClosed (v .state (p .0))) _ _ (λ _. tt) (λ _.
+    by-cond (NC p cs) (ltb mostCompletions (length cs)) _ _ (λ _. tt) (λ _.
+    by-cond (NC p cs) (anyNamesNone (ringAt v (p .0)) tags cs || namedTwice cs) _ _ (λ _. tt) (λ _.
+    (refl, length-statuses tags cs))))))
 
 abbrev NamesIn : (c : Call) → Effect c → Type 0
 NamesIn (Open p sheet) e = Unit
 NamesIn (Close p) e = Unit
 NamesIn (Turn rings grants words) e = Unit
-NamesIn (Complete rings p t s x) e = NamesCalled p (e .answer)
+NamesIn (Complete rings p entries) e = NamesCalled p (completionsIn entries) (e .answer)
 
 names-due : (v : View) (c : Call) → NamesIn c (effectDue v c)
 unfolding effectDue
 names-due v (Open p sheet) = tt
 names-due v (Close p) = tt
 names-due v (Turn rings grants words) = tt
-names-due v (Complete rings p t s x) = names-called v rings p t s x
+names-due v (Complete rings p entries) = names-called v rings p entries
 
 names-event : (v : View) (e : Event) → e ≡ due v (e .call) → NamesIn (e .call) (e .effect)
 names-event v e q = subst (λ (x : Event). NamesIn (x .call) (x .effect)) (sym q) (names-due v (e .call))
@@ -131,6 +132,51 @@ names-event v e q = subst (λ (x : Event). NamesIn (x .call) (x .effect)) (sym q
 newest : (b : Bool) (x y : Book) (a : Response) (l : List Response) → x .answered ≡ a ∷ l → All AsTold (cond b x y .answered) → b ≡ true → AsTold a
 newest true x y a l e s q = subst (All AsTold) e s .0
 newest false x y a l e s q = clash q refl
+
+-- ---- the entries of a list
+
+-- those of another port count for nothing
+finishings-other : (k j : ℕ) (left : List ℕ) (cs : List Completion) (zs : List Status) (b : Book) (t : ℕ) (l : List Response) → eqb k j ≡ false
+    → (takenAmong k (finishings left j cs zs) t ≡ t) × (givenAmong k (finishings left j cs zs) b l ≡ l)
+finishings-other k j left [] zs b t l e = (refl, refl)
+finishings-other k j left (c ∷ cs) [] b t l e = (refl, refl)
+finishings-other k j left (c ∷ cs) (z ∷ zs) b t l e =
+    let deed = finishing j left (c .tag .0) (c .serial .0) z in
+    let ds = finishings left j cs zs in
+    subst (λ (d : Bool). (takenAmong k ds (cond d t t) ≡ t) × (givenAmong k ds (cond d (entry deed b) b) (cond d (said j left z b ∷ l) l) ≡ l)) (sym e)
+    (finishings-other k j left cs zs b t l e)
+
+-- the responses that stood in the books before are among those after
+told-since : (k j : ℕ) (left : List ℕ) (cs : List Completion) (zs : List Status) (b : Book) → All AsTold (posts k (finishings left j cs zs) b .answered) → All AsTold (b .answered)
+told-since k j left [] zs b s = s
+told-since k j left (c ∷ cs) [] b s = s
+told-since k j left (c ∷ cs) (z ∷ zs) b s =
+    let deed = finishing j left (c .tag .0) (c .serial .0) z in
+    let t = told-since k j left cs zs (post k deed b) s in
+    go (eqb k j) t
+  where
+    go : (d : Bool) → All AsTold (cond d (entry (finishing j left (c .tag .0) (c .serial .0) z) b) b .answered) → All AsTold (b .answered)
+    go true t = t .1
+    go false t = t
+
+-- the port's own raise the number of each status
+finishings-own : (k j : ℕ) (left : List ℕ) (cs : List Completion) (zs : List Status) (b : Book) (t : ℕ) (l : List Response) (c : Counters) → eqb k j ≡ true
+    → length zs ≡ length cs → All AsTold (posts k (finishings left j cs zs) b .answered) → Counts t l c
+    → Counts (takenAmong k (finishings left j cs zs) t) (givenAmong k (finishings left j cs zs) b l) (raisedByAll (map statusCounter zs) c)
+unfolding said
+finishings-own k j left [] [] b t l c e n s h = h
+finishings-own k j left [] (z ∷ zs) b t l c e n s h = absurd (omega arith)
+finishings-own k j left (d ∷ cs) [] b t l c e n s h = absurd (omega arith)
+finishings-own k j left (d ∷ cs) (z ∷ zs) b t l c e n s h =
+    let a = said j left z b in
+    let ds = finishings left j cs zs in
+    let next = entry (finishing j left (d .tag .0) (d .serial .0) z) b in
+    let later : All AsTold (posts k ds next .answered) = subst (λ (x : Bool). All AsTold (posts k ds (cond x next b) .answered)) e s in
+    let told : AsTold a = told-since k j left cs zs next later .0 in
+    subst
+    (λ (x : Bool). Counts (takenAmong k ds (cond x t t)) (givenAmong k ds (cond x next b) (cond x (a ∷ l) l)) (raisedByAll (map statusCounter zs) (raisedBy (statusCounter z) c)))
+    (sym e)
+    (finishings-own k j left cs zs next t (a ∷ l) (raisedBy (statusCounter z) c) e (omega arith) later (give-one z t l a c told h))
 
 -- ---- one call more
 
@@ -163,14 +209,26 @@ module _ (k : ℕ) (h : List Act) (c : Counters) (i : Counted k h c) where
       let b = book k (eventsIn h) in
       rw (w (p .0) refl) (answered _ _ c i z _ (eqb k (p .0)) (newest (eqb k (p .0)) (entry (answering (p .0) rings pages z) b) b _ _ refl s))
 
-  counted-complete : (rings : List ℕ) (p : PortId) (t : TagId) (n : Serial) (x : ℤ) (pages : List ℕ) (r : Completed) (to : Option ℕ)
-      → let e : Event = record { call = Complete rings p t n x; effect = record { rings = pages; answer = r } } in
-      NamesCalled p r → AllTold e → WellHanded k e to → After e to
-  unfolding takenSince givenSince book said
-  counted-complete rings p t n x pages (Completed.Refused m) to q s w = quiet _ _ c i true true (went k to)
-  counted-complete rings p t n x pages (Completed.Done j z y) to q s w =
-      let b = book k (eventsIn h) in
-      rw (w (j .0) refl, q) (finished _ _ c i z _ (eqb k (p .0)) (newest (eqb k (p .0)) (entry (finishing (p .0) pages (t .0) (n .0) z) b) b _ _ refl s))
+  counted-complete : (rings : List ℕ) (p : PortId) (entries pages : List ℕ) (r : CompleteAnswer) (to : Option ℕ)
+      → let e : Event = record { call = Complete rings p entries; effect = record { rings = pages; answer = r } } in
+      NamesCalled p (completionsIn entries) r → AllTold e → WellHanded k e to → After e to
+  unfolding takenSince givenSince book
+  counted-complete rings p entries pages (noneDone m) to q s w = quiet _ _ c i true true (went k to)
+  counted-complete rings p entries pages (allDone j zs y) to q s w =
+      rw (w (j .0) refl, q .0)
+      (go (eqb k (p .0)) refl)
+    where
+      cs : List Completion
+      cs = completionsIn entries
+
+      b : Book
+      b = book k (eventsIn h)
+
+      go : (d : Bool) → eqb k (p .0) ≡ d
+          → Counts (takenAmong k (finishings pages (p .0) cs zs) (takenSince k h)) (givenAmong k (finishings pages (p .0) cs zs) b (givenSince k h))
+          (cond d (raisedByAll (map statusCounter zs) c) c)
+      go true e = finishings-own k (p .0) pages cs zs b _ _ c e (q .1) s i
+      go false e = let o = finishings-other k (p .0) pages cs zs b (takenSince k h) (givenSince k h) e in rw (o .0, o .1) i
 
   counted-call : (f : Call) (x : Effect f) (to : Option ℕ)
       → let e : Event = record { call = f; effect = x } in
@@ -178,7 +236,7 @@ module _ (k : ℕ) (h : List Act) (c : Counters) (i : Counted k h c) where
   counted-call (Open p sheet) x to q s w = counted-open p sheet x to
   counted-call (Close p) x to q s w = counted-close p x to
   counted-call (Turn rings grants words) x to q s w = counted-turn rings grants words (x .rings) (x .words) (x .answer) to s w
-  counted-call (Complete rings p t n y) x to q s w = counted-complete rings p t n y (x .rings) (x .answer) to q s w
+  counted-call (Complete rings p entries) x to q s w = counted-complete rings p entries (x .rings) (x .answer) to q s w
 
 -- of an event in a history whose calls were all as due
 pub counted-event : (b : Backend) (k : ℕ) (h : List Act) (e : Event) (to : Option ℕ) (c : Counters) → Told b (e ∷ eventsIn h) → WellHanded k e to → Counted k h c

@@ -1,31 +1,25 @@
 -- What an event that the rules give says of the view: the tests of `due` taken apart once, for fairness, conservation and the tie alike. Assumes nothing.
 use mathlib.Core.Path.{_≡_, refl, sym, ap, subst}
-use mathlib.Core.Bool.{true, false, not, _&&_}
-use mathlib.Core.List.{List}
+use mathlib.Core.Bool.{true, false, not, _&&_, _||_}
+use mathlib.Core.List.{List, map}
 use Prim.Native.Nat.{ℕ, _-_, _<_, _≤_}
 use native.Mathlib.Omega.{arith}
 use lib.Dec.{eqb, ltb, leb}
-use lib.IntN.{ℤ}
 use lib.ListN.{length}
 use borrow.Author.Tests.{ltb-true, ltb-false, leb-true, leb-false, eqb-true, eqb-false, not-false}
 use Rattle.model.specs.Buffers.{ports, ringsLength, areRings, areGrants}
-use Rattle.model.specs.Ring.{Ring}
 use Rattle.model.specs.NodeSheet.{sheetOf}
-use Rattle.model.specs.Port.{isClosed, isOpen, View, Holder, free, held, lowestFree, pendingOf, isWork}
-use Rattle.model.specs.Calls.{Call, Open, Close, Turn, Complete, TurnEffect, CompleteEffect, Effect, Event}
-use Rattle.model.specs.Turn.{ringAt, pendingAt, hasWork, lookedAt, passedOver, idle, requestAt, settled, overran, servedBy, turned}
-use Rattle.model.specs.Complete.{statusOf, completed}
-use Rattle.model.specs.Rules.{noPort, openedBy, dueOpen, dueClose, dueTurn, namesNone, tagOf, refusedCompletion, dueComplete, effectDue, due}
+use Rattle.model.specs.Port.{isClosed, isOpen, View, lowestFree, pendingOf, isWork}
+use Rattle.model.specs.Calls.{Call, Open, Close, Turn, Complete, TurnEffect, CompleteAnswer, noneDone, allDone, CompleteEffect, Effect, Event, mostCompletions}
+use Rattle.model.specs.Turn.{ringAt, pendingAt, hasWork, lookedAt, passedOver, idle, respondedAllAt, requestAt, settled, overran, servedBy, turned}
+use Rattle.model.specs.Complete.{Completion, completionsIn, areEntries, responsesFor, completed}
+use Rattle.model.specs.Rules.{noPort, openedBy, dueOpen, dueClose, dueTurn, anyNamesNone, namedTwice, refusedCompletion, dueComplete, effectDue, due}
 use Rattle.model.specs.Deeds.{Round, noTurn, unserved, served, turnRound, round, roundOf}
-use Rattle.model.specs.declared.Completed.{Completed}
 use Rattle.model.specs.declared.Pending.{Pending}
 use Rattle.model.specs.declared.PortId.{PortId}
 use Rattle.model.specs.declared.Reply.{Reply}
-use Rattle.model.specs.declared.Serial.{Serial}
 use Rattle.model.specs.declared.Sheet.{Sheet}
 use Rattle.model.specs.declared.Status.{Status}
-use Rattle.model.specs.declared.Tag.{Tag}
-use Rattle.model.specs.declared.TagId.{TagId}
 use Rattle.model.specs.declared.Turned.{Turned}
 use Rattle.model.specs.declared.Verdict.{Verdict}
 use Rattle.model.proofs.Base.{by-cond, clash, and-left, and-right, or-left, or-right, least-is, least-before}
@@ -57,15 +51,16 @@ pub record AnsweredNow (v : View) (rings left : List ℕ) (k n : ℕ) (z : Statu
   pub choice : Chosen v rings k
   pub written : left ≡ settled v rings k (requestAt v rings k) (Verdict.Refused n z) .rings
 
--- the request of port k under tag t and serial s was completed
-pub record Finished (v : View) (rings left : List ℕ) (k : ℕ) (t : TagId) (s : Serial) (z : Status) : Type 0 where
+-- the requests of port k that these entries name were completed, with these statuses
+pub record Finished (v : View) (rings left : List ℕ) (k : ℕ) (cs : List Completion) (zs : List Status) : Type 0 where
   pub sized : length rings ≡ ringsLength
   pub small : k < ports
   pub opened : isClosed (v .state k) ≡ false
-  pub named : namesNone (ringAt v k) t s (v .tag k (t .0)) ≡ false
-  pub result : ℤ
-  pub written : left ≡ completed v rings k (tagOf (v .tag k (t .0))) result .rings
-  pub status : z ≡ statusOf (tagOf (v .tag k (t .0)) .expected) result
+  pub few : length cs ≤ mostCompletions
+  pub named : anyNamesNone (ringAt v k) (v .tag k) cs ≡ false
+  pub apart : namedTwice cs ≡ false
+  pub written : left ≡ respondedAllAt v rings k (responsesFor (v .tag k) cs)
+  pub statuses : zs ≡ map (λ x. x .status) (responsesFor (v .tag k) cs)
 
 abbrev pub OpenFacts : View → PortId → Reply → Type 0
 OpenFacts v p (Reply.Refused n) = Unit
@@ -82,15 +77,15 @@ TurnFacts v rings left (Turned.Overrun p) = Chosen v rings (p .0)
 TurnFacts v rings left (Turned.Started p t s plan) = Started v rings (p .0) (t .0) (s .0)
 TurnFacts v rings left (Turned.Answered p n z y) = AnsweredNow v rings left (p .0) n z
 
-abbrev pub CompleteFacts : View → List ℕ → List ℕ → PortId → TagId → Serial → Completed → Type 0
-CompleteFacts v rings left p t s (Completed.Refused n) = Unit
-CompleteFacts v rings left p t s (Completed.Done q z y) = Finished v rings left (p .0) t s z
+abbrev pub CompleteFacts : View → List ℕ → List ℕ → PortId → List Completion → CompleteAnswer → Type 0
+CompleteFacts v rings left p cs (noneDone n) = Unit
+CompleteFacts v rings left p cs (allDone q zs y) = Finished v rings left (p .0) cs zs
 
 abbrev pub Facts : View → (c : Call) → Effect c → Type 0
 Facts v (Open p sheet) e = OpenFacts v p e
 Facts v (Close p) e = CloseFacts v p e
 Facts v (Turn rings grants words) e = TurnFacts v rings (e .rings) (e .answer)
-Facts v (Complete rings p t s result) e = CompleteFacts v rings (e .rings) p t s (e .answer)
+Facts v (Complete rings p entries) e = CompleteFacts v rings (e .rings) p (completionsIn entries) (e .answer)
 
 abbrev pub FactsOf : View → Event → Type 0
 FactsOf v e = Facts v (e .call) (e .effect)
@@ -109,24 +104,6 @@ waits-room size n d =
     _
     (λ l h. omega (arith, leb-true d (size - n) l, eqb-false d 0 z))
     (λ l h. let bad : _≡_ {A = ℕ} 0 1 = cc in absurd (omega arith)))
-
--- A completion that is not refused names a request, and one without an answer: its tag is one of the ring's, it is held, and by that serial. So an answer is
--- given to somebody, (c), and to nobody twice, (d).
-pub record Names (g : Ring) (t : TagId) (s : Serial) (x : Holder) : Type 0 where
-  pub holding : Tag
-  pub holds : x ≡ held holding
-  pub small : t .0 < g .size
-  pub serial : holding .serial .0 ≡ s .0
-
-pub names-one : (g : Ring) (t : TagId) (s : Serial) (x : Holder) → namesNone g t s x ≡ false → Names g t s x
-unfolding namesNone
-names-one g t s free e = clash refl e
-names-one g t s (held x) e = record {
-  holding = x;
-  holds = refl;
-  small = leb-false _ _ (or-left _ _ e);
-  serial = eqb-true _ _ (not-false _ (or-right (leb (g .size) (t .0)) _ e));
-}
 
 -- ---- open, close
 
@@ -196,31 +173,35 @@ turn-facts v rings grants words =
 
 -- ---- complete
 
-abbrev CF : View → List ℕ → PortId → TagId → Serial → CompleteEffect → Type 0
-CF v rings p t s e = CompleteFacts v rings (e .rings) p t s (e .answer)
+abbrev CF : View → List ℕ → PortId → List Completion → CompleteEffect → Type 0
+CF v rings p cs e = CompleteFacts v rings (e .rings) p cs (e .answer)
 
-complete-facts : (v : View) (rings : List ℕ) (p : PortId) (t : TagId) (s : Serial) (result : ℤ) → CF v rings p t s (dueComplete v rings p t s result)
+complete-facts : (v : View) (rings : List ℕ) (p : PortId) (entries : List ℕ) → CF v rings p (completionsIn entries) (dueComplete v rings p entries)
 unfolding dueComplete refusedCompletion completed
-complete-facts v rings p t s result =
-    by-cond (CF v rings p t s) (not (areRings rings)) _ _ (λ _. tt) (λ z.
-    by-cond (CF v rings p t s) (noPort p) _ _ (λ _. tt) (λ l.
-    by-cond (CF v rings p t s) (isClosed (v .state (p .0))) _ _ (λ _. tt) (λ o.
-    by-cond (CF v rings p t s) (namesNone (ringAt v (p .0)) t s (v .tag (p .0) (t .0))) _ _ (λ _. tt) (λ n. record {
-      sized = eqb-true _ _ (not-false _ z);
+complete-facts v rings p entries =
+    let cs = completionsIn entries in
+    let k = p .0 in
+    by-cond (CF v rings p cs) (not (areRings rings && areEntries entries)) _ _ (λ _. tt) (λ z.
+    by-cond (CF v rings p cs) (noPort p) _ _ (λ _. tt) (λ l.
+    by-cond (CF v rings p cs) (isClosed (v .state k)) _ _ (λ _. tt) (λ o.
+    by-cond (CF v rings p cs) (ltb mostCompletions (length cs)) _ _ (λ _. tt) (λ few.
+    by-cond (CF v rings p cs) (anyNamesNone (ringAt v k) (v .tag k) cs || namedTwice cs) _ _ (λ _. tt) (λ n. record {
+      sized = eqb-true _ _ (and-left _ _ (not-false _ z));
       small = leb-false _ _ l;
       opened = o;
-      named = n;
-      result = result;
+      few = ltb-false _ _ few;
+      named = or-left _ _ n;
+      apart = or-right (anyNamesNone (ringAt v k) (v .tag k) cs) _ n;
       written = refl;
-      status = refl;
-    }))))
+      statuses = refl;
+    })))))
 
 pub facts : (v : View) (c : Call) → FactsOf v (due v c)
 unfolding effectDue
 facts v (Open p sheet) = open-facts v p sheet
 facts v (Close p) = close-facts v p
 facts v (Turn rings grants words) = turn-facts v rings grants words
-facts v (Complete rings p t s result) = complete-facts v rings p t s result
+facts v (Complete rings p entries) = complete-facts v rings p entries
 
 -- of an event that is as due
 pub facts-due : (v : View) (e : Event) → e ≡ due v (e .call) → FactsOf v e
@@ -244,7 +225,7 @@ round-of : (v : View) (c : Call) (e : Effect c) → Facts v c e → RoundFacts v
 round-of v (Open p sheet) e f = tt
 round-of v (Close p) e f = tt
 round-of v (Turn rings grants words) e f = turn-round v rings (e .rings) (e .answer) f
-round-of v (Complete rings p t s result) e f = tt
+round-of v (Complete rings p entries) e f = tt
 
 pub round-facts : (v : View) (e : Event) → FactsOf v e → RoundFacts v (roundOf e)
 round-facts v e f = round-of v (e .call) (e .effect) f

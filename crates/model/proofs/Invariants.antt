@@ -5,9 +5,8 @@ use mathlib.Core.Bool.{not}
 use Prim.Native.Nat.{ℕ, _%_}
 use lib.ListN.{length}
 use Rattle.model.specs.Base.{modulus}
-use Rattle.model.specs.Port.{isBusy, isFree}
+use Rattle.model.specs.Port.{isBusy, isFree, tagOf}
 use Rattle.model.specs.Calls.{Event}
-use Rattle.model.specs.Rules.{tagOf}
 use Rattle.model.specs.Backend.{Backend}
 use Rattle.model.specs.History.{Book, book, holder, pointer, standing}
 use Rattle.model.specs.declared.Port.{Port}

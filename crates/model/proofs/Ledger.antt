@@ -10,9 +10,8 @@ use lib.Dec.{eqb}
 use lib.ListN.{length}
 use borrow.Author.Tests.{eqb-true, eqb-false, eq-eqb, ne-eqb}
 use Rattle.model.specs.Base.{tally}
-use Rattle.model.specs.Port.{Holder, free, held, isFree}
+use Rattle.model.specs.Port.{Holder, free, held, isFree, tagOf}
 use Rattle.model.specs.Turn.{serialOf}
-use Rattle.model.specs.Rules.{tagOf}
 use Rattle.model.specs.History.{Named, atOnce, started, Response, Taken, names, answerTo, isUnfinished, unfinished, pairsOf, holder}
 use Rattle.model.specs.Demand.{All, count}
 use Rattle.model.specs.declared.Pair.{Pair}

@@ -2,10 +2,12 @@ pub mod Ring
 pub mod Base
 pub mod Busy
 pub mod Page
+pub mod Responses
 pub mod Order
 pub mod DueFacts
 pub mod Ledger
 pub mod Conservation
+pub mod Completions
 pub mod Permitted
 pub mod Fairness
 pub mod Invariants

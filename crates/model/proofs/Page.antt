@@ -12,7 +12,7 @@ use Rattle.wire.proofs.Part.{length-part, length-setPart, part-setPart, getD-se
 use Rattle.model.specs.Buffers.{ports, ringShare, ringsLength, pagesOf, setPages}
 use Rattle.model.specs.Ring.{Layout, Ring, headerSize, reqProdAt, reqEventAt, reqProd, setReqEvent, setRspProd, rspProd, slotAt, slotOf, requestOf, setResponse, statusBits, responsePair, responseStatus}
 use Rattle.model.specs.Port.{after}
-use Rattle.model.specs.Turn.{responded}
+use Rattle.model.specs.Turn.{written, respondedAll, responded}
 use Rattle.model.specs.declared.Pair.{Pair}
 use Rattle.model.specs.declared.Status.{Status}
 use Rattle.model.proofs.Ring.{Fits, slotAt-room, slotAt-header}
@@ -154,7 +154,7 @@ module _ (l : Layout) (page : List ℕ) (at : ℕ) (q : Pair) (s : Status) where
 -- a response in the slot of an index, with rsp_prod after it
 module _ (g : Ring) (f : Fits g) (page : List ℕ) (produced : ℕ) (q : Pair) (s : Status) (sized : length page ≡ g .bytes) where
   pub length-responded : length (responded g page produced q s) ≡ g .bytes
-  unfolding responded setRspProd
+  unfolding responded respondedAll written setRspProd
   length-responded = length-store 4 _ 8 _ ∙ length-setResponse (g .layout) page (slotAt g produced) q s ∙ sized
 
   room : slotAt g produced + g .layout .responseSize ≤ length page
@@ -162,7 +162,7 @@ module _ (g : Ring) (f : Fits g) (page : List ℕ) (produced : ℕ) (q : Pair) (
 
   -- rsp_prod stands before every slot
   pub pair-responded : FitsPair q → responsePair (responded g page produced q s) (slotAt g produced) ≡ q
-  unfolding responsePair responded setRspProd
+  unfolding responsePair responded respondedAll written setRspProd
   pair-responded fit =
       let at = slotAt g produced in
       let b = setResponse (g .layout) page at q s in
@@ -171,7 +171,7 @@ module _ (g : Ring) (f : Fits g) (page : List ℕ) (produced : ℕ) (q : Pair) (
       (λ i. record { id = id i; operation = operation i }) ∙ pair-setResponse (g .layout) page at q s (f .statusRoom) room fit
 
   pub status-responded : responseStatus (responded g page produced q s) (slotAt g produced) ≡ statusBits s
-  unfolding responseStatus responded setRspProd
+  unfolding responseStatus responded respondedAll written setRspProd
   status-responded =
       let at = slotAt g produced in
       load-store-above 2 4 (setResponse (g .layout) page at q s) 8 (after produced) (at + 10) (omega (arith, slotAt-header g f produced))
@@ -179,7 +179,7 @@ module _ (g : Ring) (f : Fits g) (page : List ℕ) (produced : ℕ) (q : Pair) (
 
   -- rsp_prod says so
   pub rspProd-responded : rspProd (responded g page produced q s) ≡ after produced
-  unfolding rspProd responded setRspProd
+  unfolding rspProd responded respondedAll written setRspProd
   rspProd-responded =
       let long = length-setResponse (g .layout) page (slotAt g produced) q s in
       load-store-lt 4 _ 8 (after produced) (omega (arith, f .room)) (omega arith)
@@ -187,7 +187,7 @@ module _ (g : Ring) (f : Fits g) (page : List ℕ) (produced : ℕ) (q : Pair) (
   -- only rsp_prod and the slot are written,
   pub getD-responded : (m : ℕ) → (8 ≤ m → m < 12 → ⊥) → (slotAt g produced ≤ m → m < slotAt g produced + g .layout .slotSize → ⊥)
       → getD (responded g page produced q s) m 0 ≡ getD page m 0
-  unfolding responded setRspProd setResponse
+  unfolding responded respondedAll written setRspProd setResponse
   getD-responded m x y =
       let at = slotAt g produced in
       let n = f .responseRoom in
@@ -201,6 +201,6 @@ module _ (g : Ring) (f : Fits g) (page : List ℕ) (produced : ℕ) (q : Pair) (
 
   -- and with bytes
   pub bytes-responded : ((j : ℕ) → getD page j 0 < 256) → (j : ℕ) → getD (responded g page produced q s) j 0 < 256
-  unfolding responded setRspProd setResponse
+  unfolding responded respondedAll written setRspProd setResponse
   bytes-responded h =
       bytes-store 4 _ 8 _ (bytes-store _ _ _ 0 (bytes-store 2 _ _ _ (bytes-store 1 _ _ 0 (bytes-store 1 _ _ _ (bytes-store 8 page _ _ h)))))

@@ -3,36 +3,36 @@
 use mathlib.Core.Path.{_≡_, refl, sym, ap, _∙_, subst}
 use mathlib.Core.List.{List, [], _∷_}
 use mathlib.Core.Bool.{Bool, true, false, not}
-use Prim.Native.Nat.{ℕ, _%_, _<_}
+use Prim.Native.Nat.{ℕ, _%_, _≤_, _<_}
+use native.Mathlib.Decide.{ℕ-discrete}
 use native.Mathlib.Nat.{le-refl}
 use native.Mathlib.Omega.{arith}
-use lib.ListN.{length}
+use lib.ListN.{length, length-map}
 use Rattle.model.specs.Base.{least, tally, modulus}
 use Rattle.model.specs.Buffers.{ports, ringsLength, pagesOf, setPages}
-use Rattle.model.specs.Ring.{Ring, slotAt}
+use Rattle.model.specs.Ring.{Ring}
 use Rattle.model.specs.Port.{isClosed, isOpen, Holder, free, held, isFree, lowestFree}
-use Rattle.model.specs.Calls.{Call, Open, Close, Turn, Complete, Effect, Event}
-use Rattle.model.specs.Turn.{ringAt, pendingAt, hasWork, responded, respondedAt, requestAt, settled}
-use Rattle.model.specs.Complete.{completed}
-use Rattle.model.specs.Rules.{tagOf}
-use Rattle.model.specs.Deeds.{openDeeds, closeDeeds, turnDeeds, completeDeeds, deeds, deedsOf}
+use Rattle.model.specs.Calls.{Call, Open, Close, Turn, Complete, CompleteAnswer, noneDone, allDone, Effect, Event}
+use Rattle.model.specs.Turn.{ringAt, pendingAt, hasWork, ResponseDue, dueTo, respondedAll, respondedAllAt, respondedAt, requestAt, settled}
+use Rattle.model.specs.Complete.{Completion, completionsIn, responseFor, responsesFor}
+use Rattle.model.specs.Rules.{anyNamesNone}
+use Rattle.model.specs.Deeds.{openDeeds, closeDeeds, turnDeeds, finishings, completeDeeds, deeds, deedsOf}
 use Rattle.model.specs.History.{ringIn, asked, said, book, unfinished, holder, viewAt}
 use Rattle.model.specs.Demand.{All, AsDue, IsBytes, LendsBytes}
-use Rattle.model.specs.declared.Completed.{Completed}
 use Rattle.model.specs.declared.Pair.{Pair}
 use Rattle.model.specs.declared.PortId.{PortId}
 use Rattle.model.specs.declared.Reply.{Reply}
-use Rattle.model.specs.declared.Serial.{Serial}
 use Rattle.model.specs.declared.State.{State}
 use Rattle.model.specs.declared.Status.{Status}
-use Rattle.model.specs.declared.TagId.{TagId}
 use Rattle.model.specs.declared.Turned.{Turned}
-use Rattle.model.proofs.Base.{clash, and-left, least-is, least-some}
-use Rattle.model.proofs.Ring.{Fits, fits, slotAt-modulus, slotOf-modulus}
-use Rattle.model.proofs.Page.{length-pagesOf, pagesOf-setPages, FitsPair, request-fits, slot-bytes, length-responded, pair-responded, status-responded}
-use Rattle.model.proofs.DueFacts.{Chosen, chosen-lt, Started, AnsweredNow, Finished, OpenFacts, CloseFacts, TurnFacts, CompleteFacts, Facts, FactsOf, facts-due, waits-room, names-one}
-use Rattle.model.proofs.Ledger.{held-count, held-fits}
-use Rattle.model.proofs.Conservation.{Sound, Carries, MayClose, MayStart, MayAnswer, MayFinish, MayAll, sound-none, sound-posts}
+use Rattle.model.proofs.Base.{clash, and-left, least-is, least-some, tally-le}
+use Rattle.model.proofs.Ring.{Fits, fits, slotOf-modulus}
+use Rattle.model.proofs.Page.{length-pagesOf, pagesOf-setPages, FitsPair, request-fits, slot-bytes}
+use Rattle.model.proofs.Responses.{AllRead, AllFit, length-all, all-read}
+use Rattle.model.proofs.DueFacts.{Chosen, chosen-lt, Started, AnsweredNow, Finished, OpenFacts, CloseFacts, TurnFacts, CompleteFacts, Facts, FactsOf, facts-due, waits-room}
+use Rattle.model.proofs.Ledger.{held-count, busy}
+use Rattle.model.proofs.Conservation.{Sound, Carries, MayClose, MayStart, MayAnswer, MayAll, sound-none, sound-posts}
+use Rattle.model.proofs.Completions.{HeldAs, entries-few, responses-fit, may-finish-all, may-others}
 
 -- ---- what the history's view says of a port that is not closed
 
@@ -89,25 +89,30 @@ module _ (k : ℕ) (h : List Event) (o : Sound (book k h)) where
       let is : isFree (holder t (book k h .taken)) ≡ true = sym (ap isFree (view-tag k h opened t)) ∙ rw lowest (least-is n free? low) in
       (omega arith, free-holder _ is)
 
-  -- What a response in the slot of rsp_prod_pvt reads as: the pair that it was given, (e) and (g), and the status, (h).
+  -- What responses in the slots from rsp_prod_pvt on read as: the pairs that they were given, (e) and (g), and the statuses, (h).
+  reads-responses : (rings left : List ℕ) (xs : List ResponseDue) → isClosed (book k h .state) ≡ false → length rings ≡ ringsLength → k < ports
+      → length xs ≤ ringIn (book k h) .size → AllFit (ringIn (book k h)) (fits (book k h .params)) xs → left ≡ respondedAllAt (viewAt h) rings k xs
+      → AllRead (ringIn (book k h)) (fits (book k h .params)) xs (pagesOf (ringIn (book k h)) left k) (length (book k h .answered))
+  unfolding respondedAllAt
+  reads-responses rings left xs opened sized small few fit e =
+      let g = ringIn (book k h) in
+      let f : Fits g = fits (book k h .params) in
+      let n = length (book k h .answered) in
+      let before = pagesOf g rings k in
+      let page = respondedAll g before (n % modulus) xs in
+      let long = length-pagesOf g f rings k sized small in
+      let put : left ≡ setPages g rings k page = rw (view-ring k h opened, view-produced k h opened) at e in
+      let there : pagesOf g left k ≡ page =
+      ap (λ (x : List ℕ). pagesOf g x k) put ∙ pagesOf-setPages g f rings k sized small page (length-all g f xs n before long) in
+      rw there (all-read g f xs n before long few fit)
+
+  -- and of one
   reads-response : (rings left : List ℕ) (q : Pair) (z : Status) → isClosed (book k h .state) ≡ false → length rings ≡ ringsLength → k < ports → FitsPair q
       → left ≡ respondedAt (viewAt h) rings k q z → Carries (said k left z (book k h)) q
   unfolding said respondedAt
   reads-response rings left q z opened sized small fit e =
-      let g = ringIn (book k h) in
-      let f : Fits g = fits (book k h .params) in
-      let n = length (book k h .answered) in
-      let r = n % modulus in
-      let before = pagesOf g rings k in
-      let page = responded g before r q z in
-      let long = length-pagesOf g f rings k sized small in
-      let put : left ≡ setPages g rings k page = rw (view-ring k h opened, view-produced k h opened) at e in
-      let there : pagesOf g left k ≡ page = ap (λ (x : List ℕ). pagesOf g x k) put ∙ pagesOf-setPages g f rings k sized small page (length-responded g f before r q z long) in
-      let place : slotAt g n ≡ slotAt g r = sym (slotAt-modulus g f n) in
-      record {
-        pair = rw (there, place) (pair-responded g f before r q z long fit);
-        status = rw (there, place) (status-responded g f before r q z long);
-      }
+      let r = reads-responses rings left (dueTo q z ∷ []) opened sized small (fits (book k h .params) .some) (fit, tt) e in
+      record { pair = r .0; status = r .1 }
 
   -- the request that the rules look at is the one that the history reads
   request-asked : (rings : List ℕ) → isClosed (book k h .state) ≡ false → requestAt (viewAt h) rings k .pair ≡ asked k rings (book k h)
@@ -140,16 +145,23 @@ module _ (k : ℕ) (h : List Event) (o : Sound (book k h)) where
         reads = reads-response rings left _ z opened (f .choice .sized) (chosen-lt (f .choice)) (asked-fits rings y) (f .written ∙ ap (λ (p : Pair). respondedAt (viewAt h) rings k p z) q);
       }
 
-  may-finish : (rings left : List ℕ) (t : TagId) (s : Serial) (z : Status) → Finished (viewAt h) rings left k t s z → MayFinish k left (t .0) (s .0) z (book k h)
-  unfolding completed
-  may-finish rings left t s z f =
-      let opened : isClosed (book k h .state) ≡ false = rw view-state at (f .opened) in
-      let n = names-one _ t s _ (f .named) in
-      let holds : holder (t .0) (book k h .taken) ≡ held (n .holding) = sym (view-tag k h opened (t .0)) ∙ n .holds in
-      let fit = held-fits (ringIn (book k h) .size) (t .0) (n .holding) (book k h .taken) (o .good) holds in
-      let pair : tagOf (viewAt h .tag k (t .0)) .pair ≡ n .holding .pair = ap (λ (x : Holder). tagOf x .pair) (n .holds) in
-      let written : left ≡ respondedAt (viewAt h) rings k (n .holding .pair) z = f .written ∙ (λ i. respondedAt (viewAt h) rings k (pair i) (sym (f .status) i)) in
-      record { opened = opened; holding = n .holding; holds = holds; serial = n .serial; reads = reads-response rings left _ z opened (f .sized) (f .small) fit written }
+  may-finish : (rings left : List ℕ) (cs : List Completion) (zs : List Status) → Finished (viewAt h) rings left k cs zs → MayAll k (finishings left k cs zs) (book k h)
+  unfolding responsesFor
+  may-finish rings left cs zs f =
+      let b = book k h in
+      let g = ringIn b in
+      let tags = viewAt h .tag k in
+      let xs = responsesFor tags cs in
+      let opened : isClosed (b .state) ≡ false = rw view-state at (f .opened) in
+      let holds : HeldAs tags (b .taken) = λ u. sym (view-tag k h opened u) in
+      let named : anyNamesNone g tags cs ≡ false = rw (view-ring k h opened) at (f .named) in
+      let few = entries-few g tags cs (b .taken) (o .good) holds named (f .apart) in
+      let held = held-count (g .size) (g .size) (le-refl (g .size)) (b .taken) (o .good) in
+      let room : length xs ≤ g .size = omega (arith, length-map cs (responseFor tags), tally-le (g .size) (busy (b .taken))) in
+      let fit = responses-fit g tags (fits (b .params)) cs (b .taken) (o .good) holds named in
+      let reads = reads-responses rings left xs opened (f .sized) (f .small) room fit (f .written) in
+      subst (λ (z : List Status). MayAll k (finishings left k cs z) b) (sym (f .statuses))
+      (may-finish-all k (f .small) left cs tags b opened o holds named (f .apart) reads)
 
   -- ---- the calls
 
@@ -183,20 +195,22 @@ module _ (k : ℕ) (h : List Event) (o : Sound (book k h)) where
     tt,
   )
 
-  may-complete : (rings left : List ℕ) (p : PortId) (t : TagId) (s : Serial) (e : Completed) → CompleteFacts (viewAt h) rings left p t s e
-      → MayAll k (completeDeeds left (p .0) (t .0) (s .0) e) (book k h)
-  may-complete rings left p t s (Completed.Refused n) f = tt
-  may-complete rings left p t s (Completed.Done q z x) f = (
-    f .small,
-    λ e. subst (λ (j : ℕ). MayFinish j left (t .0) (s .0) z (book k h)) e (may-finish rings left t s z (subst (λ (j : ℕ). Finished (viewAt h) rings left j t s z) (sym e) f)),
-    tt,
-  )
+  may-complete : (rings left : List ℕ) (p : PortId) (cs : List Completion) (e : CompleteAnswer) → CompleteFacts (viewAt h) rings left p cs e
+      → MayAll k (completeDeeds left (p .0) cs e) (book k h)
+  may-complete rings left p cs (noneDone n) f = tt
+  may-complete rings left p cs (allDone q zs x) f =
+      elim (ℕ-discrete k (p .0)) [
+        | yes e ↦
+            subst (λ (j : ℕ). MayAll k (finishings left j cs zs) (book k h)) e
+            (may-finish rings left cs zs (subst (λ (j : ℕ). Finished (viewAt h) rings left j cs zs) (sym e) f))
+        | no e ↦ may-others k (p .0) left cs zs (book k h) (f .small) e
+      ]
 
   may-call : (c : Call) (e : Effect c) → LendsBytes c → Facts (viewAt h) c e → MayAll k (deeds c e) (book k h)
   may-call (Open p sheet) e y f = may-open p sheet e f
   may-call (Close p) e y f = may-close p e f
   may-call (Turn rings grants words) e y f = may-turn rings (e .rings) (e .answer) y f
-  may-call (Complete rings p t s result) e y f = may-complete rings (e .rings) p t s (e .answer) f
+  may-call (Complete rings p entries) e y f = may-complete rings (e .rings) p (completionsIn entries) (e .answer) f
 
   pub may : (e : Event) → LendsBytes (e .call) → FactsOf (viewAt h) e → MayAll k (deedsOf e) (book k h)
   may e y f = may-call (e .call) (e .effect) y f

@@ -8,10 +8,10 @@ use lib.Dec.{eqb}
 use lib.ListN.{length}
 use borrow.Author.Tests.{eqb-true, eqb-false, eq-eqb}
 use Rattle.model.specs.Buffers.{pagesOf}
-use Rattle.model.specs.Port.{isClosed, zeroTag, busyBits, isBusy, closedPort, inFlightOf, Holder, free, held, isFree, View}
+use Rattle.model.specs.Port.{isClosed, zeroTag, busyBits, isBusy, closedPort, inFlightOf, Holder, free, held, isFree, View, tagOf}
 use Rattle.model.specs.Calls.{Call, Event}
 use Rattle.model.specs.Turn.{serialOf, requestAt}
-use Rattle.model.specs.Rules.{tagOf, due}
+use Rattle.model.specs.Rules.{due}
 use Rattle.model.specs.Deeds.{Deed, opening, closing, breaking, starting, answering, finishing, portOf, deedsOf, roundOf, moved}
 use Rattle.model.specs.Backend.{Backend, emptyBackend, holderOf, viewOf, withPort, withTag, withPointer, brokenPort, startedPort, answeredPort, finishedPort, does, doesAll, next, eventOn, afterCall}
 use Rattle.model.specs.History.{backendAfter, Response, Taken, Book, noBook, ringIn, asked, said, inState, entry, post, posts, book, unfinished, holder, pointer, standing, viewAt, historyFrom, history}

@@ -1,9 +1,11 @@
 -- What the rules ask of a ring's numbers, for every port's params: proved by cases on their enums, so that no port has to keep numbers that fit. And where
 -- the slots of such a ring lie.
-use mathlib.Core.Path.{_≡_, refl, ap, subst, _∙_}
+use mathlib.Core.Path.{_≡_, refl, sym, ap, subst, _∙_}
+use mathlib.Core.Logic.{_≢_}
 use mathlib.Core.List.{List, _∷_}
-use Prim.Native.Nat.{ℕ, zero, suc, _+_, _*_, _%_, _≤_, _<_}
-use native.Mathlib.Nat.{mod-mod-of-dvd, dvd-of-mod-eq-zero, mod-lt, mul-le-mul-left, mul-le-mul-right, mul-suc}
+use Prim.Native.Nat.{ℕ, zero, suc, _+_, _-_, _*_, _%_, _≤_, _<_}
+use native.Mathlib.Decide.{decLt}
+use native.Mathlib.Nat.{mod-mod-of-dvd, dvd-of-mod-eq-zero, mod-lt, mod-eq-of-lt, mod-add-mod, mod-eq-sub-mod, mul-le-mul-left, mul-le-mul-right, mul-suc}
 use native.Mathlib.Omega.{arith}
 use lib.ListN.{getD}
 use Rattle.wire.specs.LittleEndian.{load}
@@ -100,6 +102,44 @@ module _ (g : Ring) (f : Fits g) where
       let h : n * (i % g .size) + n ≤ n * g .size =
       subst (λ (x : ℕ). x ≤ n * g .size) (mul-suc n (i % g .size)) (mul-le-mul-left n (mod-lt i (f .some))) in
       omega (arith, f .room)
+
+  -- the next indices, fewer than there are slots, have other remainders,
+  mod-apart : (i c : ℕ) → 0 < c → c < g .size → (i + c) % g .size ≢ i % g .size
+  mod-apart i c some few e = go (decLt (i % g .size + c) (g .size))
+    where
+      n : ℕ
+      n = g .size
+
+      low : i % n < n
+      low = mod-lt i (f .some)
+
+      same : (i % n + c) % n ≡ i % n
+      same = mod-add-mod i n c ∙ e
+
+      go : Dec (i % n + c < n) → ⊥
+      go (yes l) = let y : i % n + c ≡ i % n = sym (mod-eq-of-lt l) ∙ same in omega arith
+      go (no l) =
+          let above : n ≤ i % n + c = omega arith in
+          let below : i % n + c - n < n = omega (arith, low) in
+          let y : i % n + c - n ≡ i % n = sym (mod-eq-of-lt below) ∙ sym (mod-eq-sub-mod above) ∙ same in
+          omega (arith, low)
+
+  slots-below : (i j : ℕ) → i % g .size < j % g .size → slotAt g i + g .layout .slotSize ≤ slotAt g j
+  unfolding slotAt
+  slots-below i j l =
+      let n = g .layout .slotSize in
+      let h : n * (i % g .size) + n ≤ n * (j % g .size) =
+      subst (λ (x : ℕ). x ≤ n * (j % g .size)) (mul-suc n (i % g .size)) (mul-le-mul-left n l) in
+      omega arith
+
+  -- and so other slots: no byte is in both
+  pub slots-apart : (i c m : ℕ) → 0 < c → c < g .size → slotAt g i ≤ m → m < slotAt g i + g .layout .slotSize
+      → slotAt g (i + c) ≤ m → m < slotAt g (i + c) + g .layout .slotSize → ⊥
+  slots-apart i c m some few a b x y =
+      elim (decLt (i % g .size) ((i + c) % g .size)) [
+        | yes l ↦ omega (arith, slots-below i (i + c) l)
+        | no l ↦ let ne = mod-apart i c some few in omega (arith, slots-below (i + c) i (omega (arith, ne)))
+      ]
 
   -- and begins after the header
   pub slotAt-header : (i : ℕ) → headerSize ≤ slotAt g i

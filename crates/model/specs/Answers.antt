@@ -1,15 +1,14 @@
 -- What each case of an answer means, its number and its values (rule 11.4), as the words of the C interface (rules 14.5 to 14.8).
-use Prim.Native.Nat.{ℕ}
+use Prim.Native.Nat.{ℕ, _-_}
 use mathlib.Core.Bool.{Bool, cond}
-use mathlib.Core.List.{List, [], _∷_, _++_}
+use mathlib.Core.List.{List, [], _∷_, _++_, map}
 use lib.IntN.{natAbs}
-use lib.ListN.{replicate}
+use lib.ListN.{length, replicate}
 use Rattle.wire.specs.Part.{part}
 use Rattle.model.specs.Ring.{statusNumber}
-use Rattle.model.specs.Calls.{Call, Open, Close, Turn, Complete, Effect}
+use Rattle.model.specs.Calls.{Call, Open, Close, Turn, Complete, CompleteAnswer, noneDone, allDone, Effect, mostCompletions}
 use Rattle.model.specs.Plan.{planWords}
 use Rattle.model.specs.declared.Collected.{Collected}
-use Rattle.model.specs.declared.Completed.{Completed}
 use Rattle.model.specs.declared.Put.{Put}
 use Rattle.model.specs.declared.Reply.{Reply}
 use Rattle.model.specs.declared.Status.{Status}
@@ -27,18 +26,18 @@ turnedNumber (Turned.Overrun p) = 0
 turnedNumber (Turned.Started p t s plan) = 0
 turnedNumber (Turned.Answered p n z y) = 0
 
-abbrev pub completedNumber : Completed → ℕ
-completedNumber (Completed.Refused n) = n
-completedNumber (Completed.Done p z y) = 0
+abbrev pub completedNumber : CompleteAnswer → ℕ
+completedNumber (noneDone n) = n
+completedNumber (allDone p zs y) = 0
 
 -- and of any call
 abbrev pub refusal : (c : Call) → Effect c → ℕ
 refusal (Open p sheet) e = replyNumber e
 refusal (Close p) e = replyNumber e
 refusal (Turn rings grants words) e = turnedNumber (e .answer)
-refusal (Complete rings p t s result) e = completedNumber (e .answer)
+refusal (Complete rings p entries) e = completedNumber (e .answer)
 
--- a status without its sign (rules 14.7 and 14.8)
+-- a status without its sign (rules 14.7, 14.8 and 14.15)
 abbrev pub magnitude : Status → ℕ
 magnitude s = natAbs (statusNumber s)
 
@@ -55,11 +54,6 @@ turnedWords (Turned.Started p t s plan) =
     1 ∷ p .0 ∷ t .0 ∷ s .0 ∷ plan .operation ∷ plan .start ∷ plan .count ∷ yesNo (plan .secure) ∷ plan .extents ∷ replicate 3 0
 turnedWords (Turned.Answered p n z y) = 2 ∷ p .0 ∷ replicate 7 0 ++ (n ∷ magnitude z ∷ yesNo y ∷ [])
 
--- the values of a completion's answer (rules 6.13 and 14.8)
-abbrev pub completedWords : Completed → List ℕ
-completedWords (Completed.Refused n) = []
-completedWords (Completed.Done p z y) = p .0 ∷ magnitude z ∷ yesNo y ∷ []
-
 -- how many words a turn's answer has, and where those of its extents stand, four to each of eleven places (rules 5.33 and 14.7)
 abbrev pub turnWords : ℕ
 turnWords = 64
@@ -74,9 +68,13 @@ extentsIn answer = part planWords answer extentsAt
 abbrev pub turnAnswer : List ℕ → List ℕ → List ℕ
 turnAnswer values extents = values ++ replicate 4 0 ++ extents ++ replicate 4 0
 
--- a completion's four words: three values and a zero (rule 14.8)
-abbrev pub doneAnswer : List ℕ → List ℕ
-doneAnswer values = values ++ 0 ∷ []
+-- the statuses of a list, a word each (rule 14.15)
+abbrev pub magnitudes : List Status → List ℕ
+magnitudes zs = map magnitude zs
+
+-- in the words that there are for them: the rest are zeros (rule 14.15)
+unfoldable pub statusWords : List Status → List ℕ
+statusWords zs = magnitudes zs ++ replicate (mostCompletions - length zs) 0
 
 -- The words lent for a turn's answer, after it (rules 14.6 and 14.7): a refusal leaves them, and no refusal has the number 0.
 abbrev pub turnLeft : Turned → (lent extents : List ℕ) → List ℕ
@@ -86,10 +84,15 @@ turnLeft (Turned.Overrun p) lent extents = turnAnswer (turnedWords (Turned.Overr
 turnLeft (Turned.Started p t s plan) lent extents = turnAnswer (turnedWords (Turned.Started p t s plan)) extents
 turnLeft (Turned.Answered p n z y) lent extents = turnAnswer (turnedWords (Turned.Answered p n z y)) extents
 
--- and those lent for a completion's (rules 14.6 and 14.8)
-abbrev pub doneLeft : Completed → (lent : List ℕ) → List ℕ
-doneLeft (Completed.Refused n) lent = lent
-doneLeft (Completed.Done p z y) lent = doneAnswer (completedWords (Completed.Done p z y))
+-- and those lent for a completion's: four of kh_complete, whose list has one status: port, status, notify, 0 (rules 6.13, 14.6 and 14.8);
+abbrev pub doneLeft : CompleteAnswer → (lent : List ℕ) → List ℕ
+doneLeft (noneDone n) lent = lent
+doneLeft (allDone p zs y) lent = p .0 ∷ magnitudes zs ++ (yesNo y ∷ 0 ∷ [])
+
+-- and of kh_complete_many 68: port, how many, notify, 0, and the statuses (rules 6.22, 14.6 and 14.15)
+abbrev pub manyLeft : CompleteAnswer → (lent : List ℕ) → List ℕ
+manyLeft (noneDone n) lent = lent
+manyLeft (allDone p zs y) lent = p .0 ∷ length zs ∷ yesNo y ∷ 0 ∷ statusWords zs
 
 -- ---- the guest's half
 

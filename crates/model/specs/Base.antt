@@ -13,7 +13,7 @@ pub record Rule (A : Type 0) : Type 0 where
 abbrev pub _⇒_ : {A : Type 0} → Bool → A → Rule A
 t ⇒ a = record { test = t; answer = a }
 
--- the answer of the first rule that holds, else the last argument; of refusals, which stand in the order of their numbers, that is the lowest (rule 1.15)
+-- the answer of the first rule that holds, else the last argument; of refusals, which stand in the order of rule 1.15, that is the one to give
 abbrev pub firstOf : {A : Type 0} → List (Rule A) → A → A
 firstOf [] a = a
 firstOf (r ∷ rs) a = cond (r .test) (r .answer) (firstOf rs a)

@@ -1,8 +1,8 @@
 -- Section 15 of docs/RULES.md: a port's counters, and what an answer raises. Of all that is here, nothing looks at the backend.
 use Prim.Native.Nat.{ℕ, zero, suc, _-_, _^_, min}
-use mathlib.Core.List.{List}
-use lib.ListN.{getD}
-use Rattle.model.specs.declared.Completed.{Completed}
+use mathlib.Core.List.{List, [], _∷_, map}
+use lib.ListN.{getD, take, drop}
+use Rattle.model.specs.Calls.{CompleteAnswer, noneDone, allDone, mostCompletions}
 use Rattle.model.specs.declared.Counter.{Counter}
 use Rattle.model.specs.declared.Counters.{Counters}
 use Rattle.model.specs.declared.Status.{Status}
@@ -30,6 +30,11 @@ raisedBy Counter.Error c = record { taken = c .taken; okay = c .okay; error = on
 raisedBy Counter.NotSupported c = record { taken = c .taken; okay = c .okay; error = c .error; unsupported = oneMore (c .unsupported) }
 raisedBy Counter.Nothing c = c
 
+-- and with several raised, one after another
+abbrev pub raisedByAll : List Counter → Counters → Counters
+raisedByAll [] c = c
+raisedByAll (x ∷ xs) c = raisedByAll xs (raisedBy x c)
+
 -- ---- what an answer raises (rule 15.4)
 
 -- the number of a status
@@ -54,18 +59,18 @@ turnStatus (Turned.Overrun p) = Counter.Nothing
 turnStatus (Turned.Started p t s plan) = Counter.Nothing
 turnStatus (Turned.Answered p n z y) = statusCounter z
 
--- a completion that is done, the number of its status
-abbrev pub completedStatus : Completed → Counter
-completedStatus (Completed.Refused n) = Counter.Nothing
-completedStatus (Completed.Done p z y) = statusCounter z
+-- a completion that is done, the number of each of its statuses
+abbrev pub completedStatuses : CompleteAnswer → List Counter
+completedStatuses (noneDone n) = []
+completedStatuses (allDone p zs y) = map statusCounter zs
 
 -- a record, with the answer of a turn handed over
 abbrev pub afterTurned : Turned → Counters → Counters
 afterTurned r c = raisedBy (turnStatus r) (raisedBy (turnTaken r) c)
 
 -- and with that of a completion
-abbrev pub afterCompleted : Completed → Counters → Counters
-afterCompleted r c = raisedBy (completedStatus r) c
+abbrev pub afterCompleted : CompleteAnswer → Counters → Counters
+afterCompleted r c = raisedByAll (completedStatuses r) c
 
 -- ---- the same by the number that a C function returned and the words of its answer, whatever they are (rules 15.10 and 15.11)
 
@@ -113,3 +118,12 @@ turnMetered number words c = raisedBy (statusIn number words) (raisedBy (takenIn
 -- and with what kh_complete did
 abbrev pub doneMetered : ℕ → List ℕ → Counters → Counters
 doneMetered number words c = raisedBy (doneIn number words) c
+
+-- those that kh_complete_many's words say: word 1 is how many they are, 64 at most, and they stand from word 4 on (rules 14.15 and 15.12)
+abbrev pub listedIn : List ℕ → List Counter
+listedIn words = map wordCounter (take (min mostCompletions (getD words 1 0)) (drop 4 words))
+
+-- a record, with what kh_complete_many returned and left handed over
+abbrev pub manyMetered : ℕ → List ℕ → Counters → Counters
+manyMetered zero words c = raisedByAll (listedIn words) c
+manyMetered (suc n) words c = c

@@ -9,13 +9,12 @@ use mathlib.Core.List.{List, [], _∷_}
 use mathlib.Core.Option.{Option, none, some}
 use lib.Dec.{eqb}
 use Rattle.model.specs.Ring.{statusBits}
-use Rattle.model.specs.Calls.{Call, Open, Close, Turn, Complete, Effect, Event}
+use Rattle.model.specs.Calls.{Call, Open, Close, Turn, Complete, CompleteAnswer, noneDone, allDone, Effect, Event}
 use Rattle.model.specs.Deeds.{Deed, opening, closing, breaking, starting, answering, finishing, portOf, deedsOf}
 use Rattle.model.specs.Backend.{Backend, emptyBackend, eventOn, afterCall}
 use Rattle.model.specs.History.{Response, Book, said, post, book}
 use Rattle.model.specs.Demand.{All, count, LendsBytes}
 use Rattle.model.specs.Counters.{zeroCounters, most, afterTurned, afterCompleted}
-use Rattle.model.specs.declared.Completed.{Completed}
 use Rattle.model.specs.declared.Counters.{Counters}
 use Rattle.model.specs.declared.Status.{Status}
 use Rattle.model.specs.declared.Turned.{Turned}
@@ -87,22 +86,22 @@ turnPort (Turned.Overrun p) = some (p .0)
 turnPort (Turned.Started p t s plan) = some (p .0)
 turnPort (Turned.Answered p n z y) = some (p .0)
 
-abbrev pub donePort : Completed → Option ℕ
-donePort (Completed.Refused n) = none
-donePort (Completed.Done p z y) = some (p .0)
+abbrev pub donePort : CompleteAnswer → Option ℕ
+donePort (noneDone n) = none
+donePort (allDone p zs y) = some (p .0)
 
 abbrev pub answerPort : (c : Call) → Effect c → Option ℕ
 answerPort (Open p sheet) e = none
 answerPort (Close p) e = none
 answerPort (Turn rings grants words) e = turnPort (e .answer)
-answerPort (Complete rings p t s x) e = donePort (e .answer)
+answerPort (Complete rings p entries) e = donePort (e .answer)
 
 -- a record with an answer handed over (rule 15.4)
 abbrev pub handed : (c : Call) → Effect c → Counters → Counters
 handed (Open p sheet) e c = c
 handed (Close p) e c = c
 handed (Turn rings grants words) e c = afterTurned (e .answer) c
-handed (Complete rings p t s x) e c = afterCompleted (e .answer) c
+handed (Complete rings p entries) e c = afterCompleted (e .answer) c
 
 -- whether it went to port k's
 abbrev pub went : ℕ → Option ℕ → Bool

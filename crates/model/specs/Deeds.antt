@@ -5,9 +5,8 @@ use mathlib.Core.List.{List, [], _∷_}
 use Rattle.model.specs.Buffers.{ports}
 use Rattle.model.specs.NodeSheet.{sheetOf}
 use Rattle.model.specs.Port.{zeroParams}
-use Rattle.model.specs.Calls.{Call, Open, Close, Turn, Complete, Effect, Event}
-use Rattle.model.specs.Complete.{expectedOf}
-use Rattle.model.specs.declared.Completed.{Completed}
+use Rattle.model.specs.Calls.{Call, Open, Close, Turn, Complete, CompleteAnswer, noneDone, allDone, Effect, Event}
+use Rattle.model.specs.Complete.{Completion, completionsIn, expectedOf}
 use Rattle.model.specs.declared.Params.{Params}
 use Rattle.model.specs.declared.Reply.{Reply}
 use Rattle.model.specs.declared.Sheet.{Sheet}
@@ -56,17 +55,23 @@ turnDeeds lent left (Turned.Overrun p) = breaking (p .0) ∷ []
 turnDeeds lent left (Turned.Started p t s plan) = starting (p .0) lent (t .0) (s .0) (expectedOf plan) ∷ []
 turnDeeds lent left (Turned.Answered p n z y) = answering (p .0) lent left z ∷ []
 
--- A completion that is done finishes what the call named: port k, tag t, serial s (rules 12.7 and 12.14). Of its answer only the status is booked (rule 12.34).
-abbrev pub completeDeeds : List ℕ → ℕ → ℕ → ℕ → Completed → List Deed
-completeDeeds left k t s (Completed.Refused n) = []
-completeDeeds left k t s (Completed.Done p z y) = finishing k left t s z ∷ []
+-- Each entry of a list finishes what it named, port k and its tag and serial, with the status that the answer has for it, in the list's order (rule 12.14).
+abbrev pub finishings : List ℕ → ℕ → List Completion → List Status → List Deed
+finishings left k [] zs = []
+finishings left k (c ∷ cs) [] = []
+finishings left k (c ∷ cs) (z ∷ zs) = finishing k left (c .tag .0) (c .serial .0) z ∷ finishings left k cs zs
+
+-- A completion that is done finishes all that it named, a refused one nothing (rules 12.7 and 12.14). Of its answer only the statuses are booked (rule 12.34).
+abbrev pub completeDeeds : List ℕ → ℕ → List Completion → CompleteAnswer → List Deed
+completeDeeds left k cs (noneDone n) = []
+completeDeeds left k cs (allDone p zs y) = finishings left k cs zs
 
 -- the deeds of a call with this effect
 abbrev pub deeds : (c : Call) → Effect c → List Deed
 deeds (Open p sheet) e = openDeeds (p .0) sheet e
 deeds (Close p) e = closeDeeds (p .0) e
 deeds (Turn rings grants words) e = turnDeeds rings (e .rings) (e .answer)
-deeds (Complete rings p t s x) e = completeDeeds (e .rings) (p .0) (t .0) (s .0) (e .answer)
+deeds (Complete rings p entries) e = completeDeeds (e .rings) (p .0) (completionsIn entries) (e .answer)
 
 -- and of an event
 abbrev pub deedsOf : Event → List Deed
@@ -91,7 +96,7 @@ abbrev pub round : (c : Call) → Effect c → Round
 round (Open p sheet) e = noTurn
 round (Close p) e = noTurn
 round (Turn rings grants words) e = turnRound rings (e .answer)
-round (Complete rings p t s x) e = noTurn
+round (Complete rings p entries) e = noTurn
 
 -- and an event
 abbrev pub roundOf : Event → Round

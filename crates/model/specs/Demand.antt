@@ -93,7 +93,7 @@ abbrev pub LendsBytes : Call → Type 0
 LendsBytes (Open p sheet) = Unit
 LendsBytes (Close p) = Unit
 LendsBytes (Turn rings grants words) = IsBytes rings
-LendsBytes (Complete rings p t s x) = IsBytes rings
+LendsBytes (Complete rings p entries) = IsBytes rings
 
 -- for every list of calls, whatever guests write into the rings between them (rules 12.1, 12.2 and 12.32)
 abbrev pub HistoryTheorem : Type 0

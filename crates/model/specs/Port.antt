@@ -78,6 +78,11 @@ abbrev pub isFree : Holder → Bool
 isFree free = true
 isFree (held x) = false
 
+-- what a held tag keeps (rule 5.20)
+abbrev pub tagOf : Holder → Tag
+tagOf free = zeroTag
+tagOf (held x) = x
+
 -- the tag that a start gets, of as many as the ring has slots (rule 4.10)
 unfoldable pub lowestFree : ℕ → (ℕ → Holder) → ℕ
 lowestFree size tags = least size (λ t. isFree (tags t))
@@ -90,9 +95,13 @@ distance reqProd consumed = (reqProd + (modulus - consumed)) % modulus
 unfoldable pub pendingOf : ℕ → ℕ → ℕ → Pending
 pendingOf size inFlight d = firstOf (eqb d 0 ⇒ Pending.Nothing ∷ leb d (size - inFlight) ⇒ Pending.Waits ∷ []) Pending.Overrun
 
--- the index after i (rule 4.14)
+-- the index n after i (rule 4.14)
+abbrev pub further : ℕ → ℕ → ℕ
+further i n = (i + n) % modulus
+
+-- and the one after it
 abbrev pub after : ℕ → ℕ
-after i = (i + 1) % modulus
+after i = further i 1
 
 -- What the rules look at: each port's state, params, req_cons, rsp_prod_pvt, number in flight and tags, and the pointer. The backend shows one view of
 -- itself; the history of its calls shows another (rule 12.27).

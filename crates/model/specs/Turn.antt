@@ -2,12 +2,13 @@
 -- port and the pointer stands in Deeds and Backend.
 use Prim.Native.Nat.{ℕ, zero, suc, _+_, _%_}
 use mathlib.Core.Bool.{Bool, cond, _&&_}
-use mathlib.Core.List.{List}
-use lib.Dec.{eqb, ltb}
+use mathlib.Core.List.{List, [], _∷_}
+use lib.Dec.{ltb}
+use lib.ListN.{length}
 use Rattle.model.specs.Base.{least}
 use Rattle.model.specs.Buffers.{ports, pagesOf, setPages, grantsOf}
 use Rattle.model.specs.Ring.{Ring, Request, reqProd, setReqEvent, setRspProd, rspEvent, ringOf, slotAt, slotOf, requestOf, setResponse}
-use Rattle.model.specs.Port.{isOpen, View, lowestFree, distance, pendingOf, isWork, after}
+use Rattle.model.specs.Port.{isOpen, View, lowestFree, distance, pendingOf, isWork, further, after}
 use Rattle.model.specs.Plan.{verdictOf, noWords, wordsBeside}
 use Rattle.model.specs.Calls.{TurnEffect}
 use Rattle.model.specs.declared.Pair.{Pair}
@@ -70,20 +71,50 @@ armed v rings (suc k) = armedPort (ringAt v k) (v .state k) (armed v rings k) k 
 unfoldable pub idle : View → List ℕ → TurnEffect
 idle v rings = record { rings = armed v rings ports; words = noWords; answer = Turned.Idle }
 
--- ---- a response
+-- ---- responses
 
--- A ring's pages after a response: it stands in the slot of rsp_prod_pvt, and rsp_prod follows that index of our own (rules 6.1, 6.2 and 6.4), never the page's
--- (rule 10.2).
+-- a response that is due: the pair of its request, and the status (rule 6.2)
+pub record ResponseDue : Type 0 where
+  pub pair : Pair
+  pub status : Status
+
+abbrev pub dueTo : Pair → Status → ResponseDue
+dueTo q s = record { pair = q; status = s }
+
+-- a ring's pages with responses in the slots from index i on, one after another (rules 6.1, 6.2 and 6.18)
+unfoldable pub written : Ring → List ℕ → ℕ → List ResponseDue → List ℕ
+written g page i [] = page
+written g page i (x ∷ xs) = written g (setResponse (g .layout) page (slotAt g i) (x .pair) (x .status)) (after i) xs
+
+-- A ring's pages after responses: they stand in the slots from rsp_prod_pvt on, and behind the last of them rsp_prod is stored, once, from that index of our own
+-- (rules 6.4 and 6.19), never from the page's (rule 10.2). Where there are none, nothing is written (rule 6.21).
+unfoldable pub respondedAll : Ring → List ℕ → ℕ → List ResponseDue → List ℕ
+respondedAll g page produced [] = page
+respondedAll g page produced (x ∷ xs) = setRspProd (written g page produced (x ∷ xs)) (further produced (length (x ∷ xs)))
+
+-- the rings after responses of port k: no byte outside its pages changes (rules 1.20 and 6.6)
+unfoldable pub respondedAllAt : View → List ℕ → ℕ → List ResponseDue → List ℕ
+respondedAllAt v rings k xs = setPages (ringAt v k) rings k (respondedAll (ringAt v k) (pagesAt v rings k) (v .produced k) xs)
+
+-- Whether n responses are to be told, where rsp_prod_pvt was `old`, by the guest's rsp_event: new - rsp_event is below new - old, modulo 2^32 (rule 6.20).
+unfoldable pub tells : (old n event : ℕ) → Bool
+tells old n event = ltb (distance (further old n) event) (distance (further old n) old)
+
+-- those of port k
+unfoldable pub notifiesAll : View → List ℕ → ℕ → ℕ → Bool
+notifiesAll v rings k n = tells (v .produced k) n (rspEvent (pagesAt v rings k))
+
+-- the same of one response: the pages,
 unfoldable pub responded : Ring → List ℕ → ℕ → Pair → Status → List ℕ
-responded g page produced q s = setRspProd (setResponse (g .layout) page (slotAt g produced) q s) (after produced)
+responded g page produced q s = respondedAll g page produced (dueTo q s ∷ [])
 
--- the rings after a response of port k: no byte outside its pages changes (rules 1.20 and 6.6)
+-- the rings,
 unfoldable pub respondedAt : View → List ℕ → ℕ → Pair → Status → List ℕ
-respondedAt v rings k q s = setPages (ringAt v k) rings k (responded (ringAt v k) (pagesAt v rings k) (v .produced k) q s)
+respondedAt v rings k q s = respondedAllAt v rings k (dueTo q s ∷ [])
 
--- whether the guest is to be told of the response (rule 6.5)
+-- and whether to tell, which is where rsp_event is the new index (rule 6.5)
 unfoldable pub notifies : View → List ℕ → ℕ → Bool
-notifies v rings k = eqb (rspEvent (pagesAt v rings k)) (after (v .produced k))
+notifies v rings k = notifiesAll v rings k 1
 
 -- ---- serving
 

@@ -163,6 +163,12 @@ pub enum Completed {
     Done(PortId, Status, bool),
 }
 
+// The answer of a list of completions. Its statuses stand beside it, in words that the caller lends (rules 6.22 and 14.15).
+pub enum CompletedMany {
+    Refused(u32),
+    Done(PortId, bool),
+}
+
 // The answer of the guest's putting: whether to notify the backend (rule 16.9).
 pub enum Put {
     Refused(u32),

@@ -10,5 +10,10 @@ pub const EXTENT_WORDS: usize = 4;
 
 pub const PLAN_WORDS: usize = EXTENT_WORDS * EXTENTS;
 
+// A list of completions has at most so many entries, of ENTRY_WORDS words each.
+pub const MOST_COMPLETIONS: usize = 64;
+
+pub const ENTRY_WORDS: usize = 3;
+
 // The frames of a port that have a grant byte.
 pub const FRAMES: u32 = 1024;

@@ -1,4 +1,4 @@
-// The numbers that calls are refused with (rules 7.1 to 7.6, 7.11 to 7.15, and 16.3 and 16.10 of the guest's half).
+// The numbers that calls are refused with (rules 7.1 to 7.7, 7.11 to 7.15, and 16.3 and 16.10 of the guest's half).
 
 pub const WRONG_LENGTH: u32 = 1;
 
@@ -11,6 +11,8 @@ pub const IS_CLOSED: u32 = 4;
 pub const IN_FLIGHT: u32 = 5;
 
 pub const NOT_BUSY: u32 = 6;
+
+pub const TOO_MANY: u32 = 7;
 
 // Those of a node sheet.
 pub const SHEET_SHAPE: u32 = 11;

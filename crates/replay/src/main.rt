@@ -1,6 +1,6 @@
 // Runs a list of calls from the empty backend and writes each answer, a line to each.
 //
-// The input, from standard input, at most 65,536 bytes: a letter begins a line, and decimal numbers follow, at most 128, each behind a blank.
+// The input, from standard input, at most 65,536 bytes: a letter begins a line, and decimal numbers follow, at most 256, each behind a blank.
 //   # TEXT                        a comment, written out as it stands
 //   b PORT OFFSET BYTE ..         bytes into the port's share of the rings, from this offset on: what a guest writes
 //   g PORT FRAME BYTE             the port's grant byte for this frame
@@ -10,12 +10,14 @@
 //   T RINGS GRANTS                turn, with buffers lent of these lengths, at most 65536 and 8192
 //   f PORT TAG SERIAL RESULT      complete; the result from -2147483647 to 2147483647
 //   F RINGS PORT TAG SERIAL RESULT    complete, with a buffer lent of this length, at most 65536
+//   l PORT WORD ..                complete a list, whose words are three to an entry: tag, serial, result
+//   L RINGS PORT WORD ..          the same, with a buffer lent of this length, at most 65536
 //   m PORT                        the port's counters
 //   z PORT                        the port's counters zeroed
 // In b, g, m and z the port is taken modulo 8.
 //
 // The output of a call is its name, then `refused NUMBER` or its answer: `done`, `idle`, `overrun`, `started` with the plan and, behind a bar each, the
-// extents' frame, first sector, length and disk sector; `answered` with reason and status; `notify` where the guest is to be notified. Then each ring
+// extents' frame, first sector, length and disk sector; `answered` with reason and status; `done` with the statuses of a list; `notify` where the guest is to be notified. Then each ring
 // byte that the call changed, as PLACE:BYTE, its place in the 65,536. Each answer is handed over to the counters of the port that it names; they are written
 // as `meter` with the numbers taken, okay, error and not supported.
 //
@@ -23,6 +25,7 @@
 mod meters;
 
 use crate::meters::METERS;
+use answers::put_many;
 use libc::STDIN_FILENO;
 use lines::input;
 use lines::input::NUMBERS;
@@ -32,11 +35,13 @@ use model::PortId;
 use model::Serial;
 use model::TagId;
 use model::buffer::GRANTS_BYTES;
+use model::buffer::MANY_WORDS;
 use model::buffer::PORT_GRANTS;
 use model::buffer::PORTS;
 use model::buffer::RING_SHARE;
 use model::buffer::RINGS_BYTES;
 use model::buffer::TURN_WORDS;
+use model::limit::ENTRY_WORDS;
 
 // The buffers' numbers, as a line has them.
 const PORT_COUNT: u64 = PORTS as u64;
@@ -140,6 +145,52 @@ fn complete(
     meters::after_completion(meters, answer);
 }
 
+// A list of completions that is lent the first r bytes of the rings. The words of the answer are filled with ones first, as those of a turn are.
+fn complete_list(
+    memory: &mut [u64; WORDS],
+    rings: &mut [u8],
+    meters: &mut [u64; METERS],
+    r: u64,
+    port: u64,
+    entries: &[u64],
+) {
+    output::text(b"list");
+    let mut answer = [1u64; MANY_WORDS];
+    let lent = input::within(r, rings);
+    let count = entries.len() / ENTRY_WORDS;
+    let completed = lists::complete_many(
+        memory,
+        &mut rings[..lent],
+        PortId(input::narrow(port)),
+        entries,
+        &mut answer,
+    );
+    let returned = put_many(&mut answer, completed, count);
+    output::listed(completed, &answer, count);
+    meters::after_many(meters, port, returned, &answer);
+}
+
+// A list by its line, whose numbers these are.
+fn list_line(
+    memory: &mut [u64; WORDS],
+    rings: &mut [u8; RINGS_BYTES],
+    meters: &mut [u64; METERS],
+    letter: u8,
+    words: &[u64],
+) {
+    if words.len() < 1 {
+        return;
+    }
+    if letter == b'l' {
+        complete_list(memory, rings, meters, LENT_RINGS, words[0], &words[1..]);
+        return;
+    }
+    if words.len() < 2 {
+        return;
+    }
+    complete_list(memory, rings, meters, words[0], words[1], &words[2..]);
+}
+
 // A completion by its line, with all of the rings lent or with as many bytes as it says.
 fn complete_line(
     memory: &mut [u64; WORDS],
@@ -228,16 +279,11 @@ fn run_line(
     }
     if letter == b'o' {
         open(memory, &c, &bytes[..n]);
+    } else if letter == b'l' || letter == b'L' {
+        list_line(memory, rings, meters, letter, &c[..n]);
     } else {
-        call(
-            memory,
-            rings,
-            grants,
-            meters,
-            letter,
-            &c,
-            input::find(line, 0, b'-') < line.len(),
-        );
+        let negative = input::find(line, 0, b'-') < line.len();
+        call(memory, rings, grants, meters, letter, &c, negative);
     }
     output::changed(shown, rings);
     output::text(b"\n");

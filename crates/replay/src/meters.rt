@@ -3,6 +3,7 @@ use lines::output;
 use model::Completed;
 use model::Counters;
 use model::Turned;
+use model::buffer::MANY_WORDS;
 use model::buffer::PORTS;
 ghost use Prim.Native.Nat.{_+_, _≤_};
 
@@ -65,6 +66,18 @@ pub fn after_turn(meters: &mut [u64; METERS], turned: Turned) {
 pub fn after_completion(meters: &mut [u64; METERS], completed: Completed) {
     let at = place(completed_port(completed));
     let after = counters::after_completion(counters_at(meters, at), completed);
+    put_counters(meters, at, after);
+}
+
+// What the call returned, and the words that it left, go to the counters of the port that was named.
+pub fn after_many(
+    meters: &mut [u64; METERS],
+    port: u64,
+    returned: u32,
+    answer: &[u64; MANY_WORDS],
+) {
+    let at = place(port);
+    let after = counters::after_many(counters_at(meters, at), returned, answer);
     put_counters(meters, at, after);
 }
 

@@ -1,8 +1,9 @@
 -- What the ring adds to the model's laws of a response: how the code writes it, and that no other byte of the page changes but rsp_prod. Assumes nothing.
-use mathlib.Core.Path.{_≡_, refl, sym, _∙_}
+use mathlib.Core.Path.{_≡_, refl, sym, ap, _∙_}
 use mathlib.Core.List.{List}
 use Prim.Native.Nat.{ℕ, _+_, _-_, _/_, _^_, _≤_, _<_}
 use native.Mathlib.Omega.{arith}
+use lib.Dec.{ltb}
 use lib.ListN.{length, getD, length-take, length-drop}
 use lib.Seq.{ext-getD}
 use mir.Syntax.{w16}
@@ -12,7 +13,9 @@ use Rattle.wire.specs.Part.{part}
 use Rattle.wire.proofs.LittleEndian.{store-add, getD-store-outside, load-agree}
 use Rattle.wire.proofs.Part.{getD-part}
 use Rattle.model.specs.Ring.{Ring, Layout, layoutOf, ringFor, rspProdAt, rspEventAt, rspEvent, setRspProd, slotAt, responseOperationAt, responseStatusAt, responsePaddingAt, statusNumber, statusBits, setResponse}
-use Rattle.model.specs.Turn.{responded}
+use Rattle.model.specs.Base.{modulus}
+use Rattle.model.specs.Port.{distance, further}
+use Rattle.model.specs.Turn.{tells, written, respondedAll, responded}
 use Rattle.model.specs.declared.Abi.{Abi}
 use Rattle.model.specs.declared.Pages.{Pages}
 use Rattle.model.specs.declared.Pair.{Pair}
@@ -39,6 +42,11 @@ pub passed : (s : Status) → ofZ w16 (toZ w16 (ofZ w16 (statusNumber s))) ≡ s
 passed Status.Okay = refl
 passed Status.Error = refl
 passed Status.NotSupported = refl
+
+-- rsp_prod_pvt is n behind the new index, so n is what the distance to rsp_event is compared with
+pub tells-few : (old n event : ℕ) → old < modulus → n < modulus → tells old n event ≡ ltb (distance (further old n) event) n
+unfolding tells distance
+tells-few old n event o l = ap (λ (m : ℕ). ltb (distance (further old n) event) m) (omega arith)
 
 -- ---- a byte that no store of a response reaches
 
@@ -72,7 +80,7 @@ module _ (g : Ring) (f : Fits g) (page : List ℕ) (n : length page ≡ g .bytes
   -- a byte of neither the response nor rsp_prod stays
   pub responded-outside : (j : ℕ) → ((i : ℕ) → i < g .layout .responseSize → j ≡ slotAt g produced + i → ⊥) → ((i : ℕ) → i < 4 → j ≡ rspProdAt + i → ⊥)
       → getD (responded g page produced q s) j 0 ≡ getD page j 0
-  unfolding responded setRspProd
+  unfolding responded respondedAll written setRspProd
   responded-outside j h k =
       getD-store-outside 4 _ rspProdAt _ j k ∙ response-outside (g .layout) (f .statusRoom) page (slotAt g produced) q s j h
 

@@ -7,3 +7,6 @@ mod write;
 pub use page::respond;
 pub use status::status_number;
 pub use status::status_of;
+pub use status::word_status;
+pub use write::publish;
+pub use write::put_response;

@@ -1,7 +1,10 @@
 // The status that a response tells the guest.
 use model::Status;
 use model::result::NOT_SUPPORTED;
+use model::result::NOT_SUPPORTED_WORD;
 ghost use mathlib.Core.Path.{_≡_};
+ghost use mir.Syntax.{w64};
+ghost use mir.Val.{toZ};
 ghost use Rattle.model.specs.Complete.{statusOf};
 ghost use Rattle.model.specs.Ring.{statusNumber};
 
@@ -15,6 +18,20 @@ pub fn status_of(expected: u32, result: i32) -> Status
         return Status::Okay;
     }
     if got == NOT_SUPPORTED {
+        Status::NotSupported
+    } else {
+        Status::Error
+    }
+}
+
+// The same for a result that is a word of 64 bits, in two's complement.
+pub fn word_status(expected: u32, result: u64) -> Status
+    ensures { λ r. ⌜ r ≡ statusOf expected (toZ w64 result) ⌝ }
+{
+    if result == expected as u64 {
+        return Status::Okay;
+    }
+    if result == NOT_SUPPORTED_WORD {
         Status::NotSupported
     } else {
         Status::Error

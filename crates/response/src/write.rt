@@ -59,7 +59,14 @@ fn put_in_slot(page: &mut [u8], abi: Abi, pages: Pages, produced: u32, pair: Pai
 }
 
 // The same, with an arm for each layout: there the compiler knows its numbers.
-fn put_response(page: &mut [u8], abi: Abi, pages: Pages, produced: u32, pair: Pair, status: Status)
+pub fn put_response(
+    page: &mut [u8],
+    abi: Abi,
+    pages: Pages,
+    produced: u32,
+    pair: Pair,
+    status: Status,
+)
     requires { ⌜ length (now page) ≡ ringFor abi pages .bytes ⌝ }
     ensures { λ _. ⌜ now (page .exit) ≡ setResponse (layoutOf abi) (now (page .entry)) (slotAt (ringFor abi pages) produced) pair status ⌝ }
 {
@@ -77,14 +84,15 @@ fn put_rsp_prod(page: &mut [u8], v: u32)
     wire::put_u32(page, RSP_PROD, v);
 }
 
-// rsp_prod goes up by one, and only then is rsp_event read, once, as in ring.h. That is the order of the source: no fence stands between.
-fn publish(page: &mut [u8], produced: u32) -> bool
+// rsp_prod goes up by the n responses that stand behind our index, and only then is rsp_event read, once, as in ring.h. That is the order of the source: no fence
+// stands between. The answer is whether to notify the guest.
+pub fn publish(page: &mut [u8], produced: u32, n: u32) -> bool
     requires { ⌜ headerSize ≤ length (now page) ⌝ }
-    ensures { λ r. ⌜ Published (now (page .entry)) produced (now (page .exit)) r ⌝ }
+    ensures { λ r. ⌜ Published (now (page .entry)) produced n (now (page .exit)) r ⌝ }
 {
-    let next = ring::next_index(produced);
+    let next = ring::index_after(produced, n);
     put_rsp_prod(page, next);
-    wire::u32_at(page, RSP_EVENT) == next
+    ring::distance(next, wire::u32_at(page, RSP_EVENT)) < n
 }
 
 // A response into the page: its bytes, then rsp_prod from our own index. The answer is whether to notify the guest.
@@ -101,5 +109,5 @@ pub fn write_response(
     ensures { λ r. ⌜ Responded (ringFor abi pages) (now (page .entry)) produced pair status (now (page .exit)) r ⌝ }
 {
     put_response(page, abi, pages, produced, pair, status);
-    publish(page, produced)
+    publish(page, produced, 1)
 }

@@ -6,6 +6,7 @@ mod page;
 mod slot;
 
 pub use index::distance;
+pub use index::index_after;
 pub use index::next_index;
 pub use page::arm;
 pub use page::req_prod;

@@ -1,41 +1,42 @@
 -- Rule 1.20: rings that differ only outside the ports' rings get the same answers and are left alike, and what lies there stays. Assumes nothing.
 use mathlib.Core.Path.{_≡_, refl, sym, ap, _∙_, subst}
-use mathlib.Core.Bool.{Bool, true, false, not, cond, _&&_}
-use mathlib.Core.List.{List}
+use mathlib.Core.Bool.{Bool, true, false, not, cond, _&&_, _||_}
+use mathlib.Core.List.{List, [], _∷_, map}
 use Prim.Native.Nat.{ℕ, zero, suc, _≤_, _<_}
 use native.Mathlib.Omega.{arith}
 use lib.Dec.{eqb, ltb}
-use lib.IntN.{ℤ}
 use lib.ListN.{length, getD}
 use borrow.Author.Tests.{ltb-true, leb-false, eqb-true, eqb-false, not-false}
 use Rattle.model.specs.Base.{least}
 use Rattle.model.specs.Buffers.{ports, ringsLength, areRings, areGrants, pagesOf, setPages, grantsOf}
-use Rattle.model.specs.Calls.{TurnEffect, CompleteEffect}
-use Rattle.model.specs.Complete.{statusOf, completed}
+use Rattle.model.specs.Calls.{TurnEffect, allDone, CompleteEffect, mostCompletions}
+use Rattle.model.specs.Complete.{completionsIn, areEntries, responsesFor, completed}
 use Rattle.model.specs.Plan.{verdictOf}
 use Rattle.model.specs.Port.{View, isClosed, isOpen, isWork, distance, pendingOf, after}
 use Rattle.model.specs.Ring.{Ring, Request, ringFor, reqProd, setReqEvent, rspEvent, slotOf, requestOf}
-use Rattle.model.specs.Rules.{noPort, namesNone, tagOf, refusedCompletion, dueTurn, dueComplete}
-use Rattle.model.specs.Turn.{portId, ringAt, pagesAt, pendingAt, hasWork, lookedAt, passedOver, armedPort, armed, idle, responded, respondedAt, notifies, requestAt, settled, overran, servedBy, turned}
-use Rattle.model.specs.declared.Completed.{Completed}
+use Rattle.model.specs.Rules.{noPort, anyNamesNone, namedTwice, refusedCompletion, dueTurn, dueComplete}
+use Rattle.model.specs.Turn.{portId, ringAt, pagesAt, pendingAt, hasWork, lookedAt, passedOver, armedPort, armed, idle, ResponseDue, dueTo, respondedAll, respondedAllAt, tells, notifiesAll, responded, respondedAt, notifies, requestAt, settled, overran, servedBy, turned}
 use Rattle.model.specs.declared.Pages.{Pages}
-use Rattle.model.specs.declared.Pair.{Pair}
 use Rattle.model.specs.declared.Pending.{Pending}
 use Rattle.model.specs.declared.PortId.{PortId}
-use Rattle.model.specs.declared.Serial.{Serial}
 use Rattle.model.specs.declared.State.{State}
-use Rattle.model.specs.declared.Status.{Status}
-use Rattle.model.specs.declared.TagId.{TagId}
 use Rattle.model.specs.declared.Turned.{Turned}
 use Rattle.model.specs.declared.Verdict.{Verdict}
 use Rattle.wire.proofs.LittleEndian.{length-store}
 use Rattle.model.proofs.Base.{by-cond, and-left, least-is}
 use Rattle.model.proofs.Page.{length-pagesOf, pagesOf-setPages, pagesOf-other, length-setPages, getD-setPages, length-responded}
 use Rattle.model.proofs.Permitted.{open-not-closed}
+use Rattle.model.proofs.Responses.{one-by-one}
 use Rattle.model.proofs.Ring.{Fits, fits}
 use Rattle.shares.specs.SecondHalf.{SameRings, InNoRing, InSecondHalf, Untouched}
 
 -- ---- not read
+
+-- what a test chooses between, in two effects
+alike : (R : CompleteEffect → CompleteEffect → Type 0) (t : Bool) (x y z w : CompleteEffect) → (t ≡ true → R x y) → (t ≡ false → R z w)
+    → R (cond t x z) (cond t y w)
+alike R true x y z w f g = f refl
+alike R false x y z w f g = g refl
 
 -- two effects that answer the same
 record Agrees (x y : TurnEffect) : Type 0 where
@@ -61,9 +62,9 @@ module _ (v : View) (a b : List ℕ) (s : SameRings v a b) where
   passed-same = λ i. least ports (λ j. work-same (lookedAt v j) (omega arith) i)
 
   settled-same : (k : ℕ) → pagesAt v a k ≡ pagesAt v b k → (r : Request) (x : Verdict) → Agrees (settled v a k r x) (settled v b k r x)
-  unfolding settled notifies
+  unfolding settled notifies notifiesAll
   settled-same k e r (Verdict.Refused n z) = record {
-    answer = ap (λ (p : List ℕ). Turned.Answered (portId k) n z (eqb (rspEvent p) (after (v .produced k)))) e;
+    answer = ap (λ (p : List ℕ). Turned.Answered (portId k) n z (tells (v .produced k) 1 (rspEvent p))) e;
     words = refl;
   }
   settled-same k e r (Verdict.Start plan) = record { answer = refl; words = refl }
@@ -107,22 +108,41 @@ module _ (v : View) (a b : List ℕ) (s : SameRings v a b) where
         go true = turned-same
         go false = record { answer = refl; words = refl }
 
-  completion-same : (p : PortId) (t : TagId) (n : Serial) (x : ℤ) → dueComplete v a p t n x .answer ≡ dueComplete v b p t n x .answer
-  unfolding dueComplete refusedCompletion completed notifies
-  completion-same p t n x =
-      rw (s .long, s .alsoLong) (go (noPort p) (isClosed (v .state (p .0))) (namesNone (ringAt v (p .0)) t n (v .tag (p .0) (t .0))) refl refl)
-    where
-      go : (c d e : Bool) → noPort p ≡ c → isClosed (v .state (p .0)) ≡ d
-          → cond c (refusedCompletion a 2) (cond d (refusedCompletion a 4) (cond e (refusedCompletion a 6) (completed v a (p .0) (tagOf (v .tag (p .0) (t .0))) x))) .answer
-          ≡ cond c (refusedCompletion b 2) (cond d (refusedCompletion b 4) (cond e (refusedCompletion b 6) (completed v b (p .0) (tagOf (v .tag (p .0) (t .0))) x))) .answer
-      go true d e l o = refl
-      go false true e l o = refl
-      go false false true l o = refl
-      go false false false l o =
-          let z = statusOf (tagOf (v .tag (p .0) (t .0)) .expected) x in
-          ap (λ (r : List ℕ). Completed.Done (portId (p .0)) z (eqb (rspEvent r) (after (v .produced (p .0))))) (s .same (p .0) (leb-false _ _ l) o)
+  -- what holds of both effects where they are refused alike and where they are done holds of what is due
+  completion-alike : (R : CompleteEffect → CompleteEffect → Type 0) (p : PortId) (entries : List ℕ)
+      → ((n : ℕ) → R (refusedCompletion a n) (refusedCompletion b n))
+      → (p .0 < ports → isClosed (v .state (p .0)) ≡ false → R (completed v a (p .0) (completionsIn entries)) (completed v b (p .0) (completionsIn entries)))
+      → R (dueComplete v a p entries) (dueComplete v b p entries)
+  unfolding dueComplete
+  completion-alike R p entries refused done =
+      let cs = completionsIn entries in
+      rw (s .long, s .alsoLong)
+      (alike R (not (areEntries entries)) _ _ _ _ (λ _. refused 1) (λ _.
+      alike R (noPort p) _ _ _ _ (λ _. refused 2) (λ l.
+      alike R (isClosed (v .state (p .0))) _ _ _ _ (λ _. refused 4) (λ o.
+      alike R (ltb mostCompletions (length cs)) _ _ _ _ (λ _. refused 7) (λ _.
+      alike R (anyNamesNone (ringAt v (p .0)) (v .tag (p .0)) cs || namedTwice cs) _ _ _ _ (λ _. refused 6) (λ _.
+      done (leb-false _ _ l) o))))))
+
+  completion-same : (p : PortId) (entries : List ℕ) → dueComplete v a p entries .answer ≡ dueComplete v b p entries .answer
+  unfolding refusedCompletion completed notifiesAll
+  completion-same p entries =
+      let xs = responsesFor (v .tag (p .0)) (completionsIn entries) in
+      completion-alike (λ x y. x .answer ≡ y .answer) p entries
+      (λ n. refl)
+      (λ small o.
+      ap (λ (r : List ℕ). allDone (portId (p .0)) (map (λ x. x .status) xs) (tells (v .produced (p .0)) (length xs) (rspEvent r))) (s .same (p .0) small o))
 
 -- ---- the rings left
+
+-- responses leave a ring as long as it was, wherever they begin
+length-responses : (g : Ring) (f : Fits g) (xs : List ResponseDue) (page : List ℕ) (i : ℕ) → length page ≡ g .bytes → length (respondedAll g page i xs) ≡ g .bytes
+unfolding respondedAll
+length-responses g f [] page i sized = sized
+length-responses g f (x ∷ xs) page i sized =
+    let one = responded g page i (x .pair) (x .status) in
+    ap (λ (l : List ℕ). length l) (one-by-one g f x xs page i)
+    ∙ length-responses g f xs one (after i) (length-responded g f page i (x .pair) (x .status) sized)
 
 module _ (v : View) where
   -- the same new pages of a port, in both
@@ -151,14 +171,14 @@ module _ (v : View) where
           ∙ s .same j here o
           ∙ sym (pagesOf-other g f b k (s .alsoLong) small pages l (ringAt v j) (fits (v .params j)) j here (eqb-false j k e))
 
-  respond-same : (a b : List ℕ) → SameRings v a b → (k : ℕ) → k < ports → isClosed (v .state k) ≡ false → (q : Pair) (z : Status)
-      → SameRings v (respondedAt v a k q z) (respondedAt v b k q z)
-  unfolding respondedAt
-  respond-same a b s k small opened q z =
+  respond-same : (a b : List ℕ) → SameRings v a b → (k : ℕ) → k < ports → isClosed (v .state k) ≡ false → (xs : List ResponseDue)
+      → SameRings v (respondedAllAt v a k xs) (respondedAllAt v b k xs)
+  unfolding respondedAllAt
+  respond-same a b s k small opened xs =
       let g = ringAt v k in
       let f = fits (v .params k) in
-      let page = responded g (pagesAt v b k) (v .produced k) q z in
-      let l = length-responded g f (pagesAt v b k) (v .produced k) q z (length-pagesOf g f b k (s .alsoLong) small) in
+      let page = respondedAll g (pagesAt v b k) (v .produced k) xs in
+      let l = length-responses g f xs (pagesAt v b k) (v .produced k) (length-pagesOf g f b k (s .alsoLong) small) in
       rw (s .same k small opened) (put-same a b s k small page l)
 
   arm-same : (a b : List ℕ) → SameRings v a b → (k : ℕ) → k < ports → (t : State) → v .state k ≡ t
@@ -180,8 +200,8 @@ module _ (v : View) where
 
   settle-same : (a b : List ℕ) → SameRings v a b → (k : ℕ) → k < ports → isClosed (v .state k) ≡ false → (r : Request) (x : Verdict)
       → SameRings v (settled v a k r x .rings) (settled v b k r x .rings)
-  unfolding settled
-  settle-same a b s k small opened r (Verdict.Refused n z) = respond-same a b s k small opened (r .pair) z
+  unfolding settled respondedAt
+  settle-same a b s k small opened r (Verdict.Refused n z) = respond-same a b s k small opened (dueTo (r .pair) z ∷ [])
   settle-same a b s k small opened r (Verdict.Start plan) = s
 
   serve-same : (a b grants : List ℕ) → SameRings v a b → (k : ℕ) → k < ports → isClosed (v .state k) ≡ false → (d : Pending)
@@ -218,29 +238,21 @@ module _ (v : View) where
       go true = rings-same a b grants s
       go false = s
 
-  complete-rings : (a b : List ℕ) (p : PortId) (t : TagId) (n : Serial) (x : ℤ) → SameRings v a b
-      → SameRings v (dueComplete v a p t n x .rings) (dueComplete v b p t n x .rings)
-  unfolding dueComplete refusedCompletion completed
-  complete-rings a b p t n x s =
-      rw (s .long, s .alsoLong) (go (noPort p) (isClosed (v .state (p .0))) (namesNone (ringAt v (p .0)) t n (v .tag (p .0) (t .0))) refl refl)
-    where
-      go : (c d e : Bool) → noPort p ≡ c → isClosed (v .state (p .0)) ≡ d
-          → SameRings v (cond c (refusedCompletion a 2) (cond d (refusedCompletion a 4) (cond e (refusedCompletion a 6) (completed v a (p .0) (tagOf (v .tag (p .0) (t .0))) x))) .rings)
-          (cond c (refusedCompletion b 2) (cond d (refusedCompletion b 4) (cond e (refusedCompletion b 6) (completed v b (p .0) (tagOf (v .tag (p .0) (t .0))) x))) .rings)
-      go true d e l o = s
-      go false true e l o = s
-      go false false true l o = s
-      go false false false l o = respond-same a b s (p .0) (leb-false _ _ l) o _ _
+  complete-rings : (a b : List ℕ) (p : PortId) (entries : List ℕ) → SameRings v a b
+      → SameRings v (dueComplete v a p entries .rings) (dueComplete v b p entries .rings)
+  unfolding refusedCompletion completed
+  complete-rings a b p entries s =
+      completion-alike v a b s (λ x y. SameRings v (x .rings) (y .rings)) p entries (λ n. s) (λ small o. respond-same a b s (p .0) small o _)
 
 -- ---- not written
 
 module _ (v : View) (rings : List ℕ) (sized : length rings ≡ ringsLength) (m : ℕ) (out : InNoRing v m) where
-  responded-keeps : (k : ℕ) → k < ports → isClosed (v .state k) ≡ false → (q : Pair) (z : Status) → getD (respondedAt v rings k q z) m 0 ≡ getD rings m 0
-  unfolding respondedAt
-  responded-keeps k small opened q z =
+  responded-keeps : (k : ℕ) → k < ports → isClosed (v .state k) ≡ false → (xs : List ResponseDue) → getD (respondedAllAt v rings k xs) m 0 ≡ getD rings m 0
+  unfolding respondedAllAt
+  responded-keeps k small opened xs =
       let g = ringAt v k in
       let f = fits (v .params k) in
-      let long = length-responded g f (pagesOf g rings k) (v .produced k) q z (length-pagesOf g f rings k sized small) in
+      let long = length-responses g f xs (pagesOf g rings k) (v .produced k) (length-pagesOf g f rings k sized small) in
       getD-setPages g f rings k sized small _ long m (out k small opened)
 
   -- rings as long as before, with that byte as it was
@@ -272,8 +284,8 @@ module _ (v : View) (rings : List ℕ) (sized : length rings ≡ ringsLength) (m
   Keeps e = getD (e .rings) m 0 ≡ getD rings m 0
 
   settled-keeps : (k : ℕ) → k < ports → isClosed (v .state k) ≡ false → (r : Request) (x : Verdict) → Keeps (settled v rings k r x)
-  unfolding settled
-  settled-keeps k small opened r (Verdict.Refused n z) = responded-keeps k small opened (r .pair) z
+  unfolding settled respondedAt
+  settled-keeps k small opened r (Verdict.Refused n z) = responded-keeps k small opened (dueTo (r .pair) z ∷ [])
   settled-keeps k small opened r (Verdict.Start plan) = refl
 
   served-keeps : (grants : List ℕ) (k : ℕ) → k < ports → isClosed (v .state k) ≡ false → (d : Pending) → Keeps (servedBy v rings grants k d)
@@ -302,15 +314,16 @@ turn-keeps v rings grants words m out =
 abbrev Left : List ℕ → ℕ → CompleteEffect → Type 0
 Left rings m e = getD (e .rings) m 0 ≡ getD rings m 0
 
-complete-keeps : (v : View) (rings : List ℕ) (p : PortId) (t : TagId) (n : Serial) (x : ℤ) (m : ℕ) → InNoRing v m
-    → getD (dueComplete v rings p t n x .rings) m 0 ≡ getD rings m 0
+complete-keeps : (v : View) (rings : List ℕ) (p : PortId) (entries : List ℕ) (m : ℕ) → InNoRing v m → getD (dueComplete v rings p entries .rings) m 0 ≡ getD rings m 0
 unfolding dueComplete refusedCompletion completed
-complete-keeps v rings p t n x m out =
-    by-cond (Left rings m) (not (areRings rings)) _ _ (λ _. refl) (λ z.
+complete-keeps v rings p entries m out =
+    let cs = completionsIn entries in
+    by-cond (Left rings m) (not (areRings rings && areEntries entries)) _ _ (λ _. refl) (λ z.
     by-cond (Left rings m) (noPort p) _ _ (λ _. refl) (λ l.
     by-cond (Left rings m) (isClosed (v .state (p .0))) _ _ (λ _. refl) (λ o.
-    by-cond (Left rings m) (namesNone (ringAt v (p .0)) t n (v .tag (p .0) (t .0))) _ _ (λ _. refl) (λ _.
-    responded-keeps v rings (eqb-true _ _ (not-false _ z)) m out (p .0) (leb-false _ _ l) o _ _))))
+    by-cond (Left rings m) (ltb mostCompletions (length cs)) _ _ (λ _. refl) (λ _.
+    by-cond (Left rings m) (anyNamesNone (ringAt v (p .0)) (v .tag (p .0)) cs || namedTwice cs) _ _ (λ _. refl) (λ _.
+    responded-keeps v rings (eqb-true _ _ (and-left _ _ (not-false _ z))) m out (p .0) (leb-false _ _ l) o _)))))
 
 -- ---- the second half
 
@@ -329,9 +342,9 @@ pub untouched : (v : View) → Untouched v
 untouched v = record {
   turnAnswer = λ a b grants words s. due-same v a b s grants words .answer;
   turnWords = λ a b grants words s. due-same v a b s grants words .words;
-  completeAnswer = λ a b p t n x s. completion-same v a b s p t n x;
+  completeAnswer = λ a b p entries s. completion-same v a b s p entries;
   turnRings = λ a b grants words s. due-rings v a b grants words s;
-  completeRings = λ a b p t n x s. complete-rings v a b p t n x s;
+  completeRings = complete-rings v;
   secondHalf = second-half v;
   turnKeeps = turn-keeps v;
   completeKeeps = complete-keeps v;

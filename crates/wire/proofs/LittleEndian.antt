@@ -7,7 +7,7 @@ use native.Mathlib.Nat.{pow-suc, pow-succ', one-le-pow, mod-one, mod-lt, mod-eq-
 use native.Mathlib.Nat.{add-zero, add-suc, add-comm, add-assoc, add-mul, mul-assoc, mul-comm}
 use native.Mathlib.Omega.{arith}
 use lib.ListN.{length, getD, set, length-set}
-use lib.Seq.{set-out, getD-set-same, getD-set-other}
+use lib.Seq.{set-out, set-set, set-comm, getD-set-same, getD-set-other}
 use lib.Arith.{digits-lt, digits-div, mod-mul}
 use lib.Pow.{pow-add}
 use Rattle.wire.specs.LittleEndian.{load, store}
@@ -56,6 +56,32 @@ pub length-store : (n : ℕ) (b : List ℕ) (i v : ℕ) → length (store n b i 
 unfolding store
 length-store zero b i v = refl
 length-store (suc n) b i v = length-set (store n b i v) (i + n) (v / 256 ^ n % 256) ∙ length-store n b i v
+
+-- a byte set elsewhere may be set before or after
+store-set : (n : ℕ) (b : List ℕ) (i v j a : ℕ) → ((q : ℕ) → q < n → j ≡ i + q → ⊥) → store n (set b j a) i v ≡ set (store n b i v) j a
+unfolding store
+store-set zero b i v j a h = refl
+store-set (suc n) b i v j a h =
+    rw (store-set n b i v j a (λ q l. h q (omega arith))) (set-comm (store n b i v) j (i + n) a (v / 256 ^ n % 256) (h n (omega arith)))
+
+-- a store leaves nothing of one before it at the same place
+pub store-store : (n : ℕ) (b : List ℕ) (i v w : ℕ) → store n (store n b i v) i w ≡ store n b i w
+unfolding store
+store-store zero b i v w = refl
+store-store (suc n) b i v w =
+    rw (store-set n (store n b i v) i w (i + n) (v / 256 ^ n % 256) (λ q l e. omega arith), store-store n b i v w)
+    (set-set (store n b i w) (i + n) (v / 256 ^ n % 256) (w / 256 ^ n % 256))
+
+-- stores that are apart may change places
+pub store-comm : (m n : ℕ) (b : List ℕ) (i v j w : ℕ) → ((p q : ℕ) → p < m → q < n → i + p ≡ j + q → ⊥)
+    → store n (store m b i v) j w ≡ store m (store n b j w) i v
+unfolding store
+store-comm zero n b i v j w h = refl
+store-comm (suc m) n b i v j w h =
+    rw (
+      store-set n (store m b i v) j w (i + m) (v / 256 ^ m % 256) (λ q l. h m q (omega arith) l),
+      store-comm m n b i v j w (λ p q l. h p q (omega arith)),
+    )
 
 -- a byte outside the n is unchanged
 pub getD-store-outside : (n : ℕ) (b : List ℕ) (i v j : ℕ) → ((q : ℕ) → q < n → j ≡ i + q → ⊥) → getD (store n b i v) j 0 ≡ getD b j 0

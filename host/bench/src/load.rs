@@ -22,9 +22,9 @@ pub enum Rings {
 }
 
 impl Rings {
-    const BITS64: Rings = Rings::All(Abi::Bits64);
+    pub const BITS64: Rings = Rings::All(Abi::Bits64);
     const BITS32: Rings = Rings::All(Abi::Bits32);
-    const BITS64_TWO_PAGES: Rings = Rings::TwoPages(Abi::Bits64);
+    pub const BITS64_TWO_PAGES: Rings = Rings::TwoPages(Abi::Bits64);
     const BITS32_TWO_PAGES: Rings = Rings::TwoPages(Abi::Bits32);
 
     /// The ones that print so.

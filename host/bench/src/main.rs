@@ -4,9 +4,13 @@
 //! - `bench times`: nanoseconds a request of both programs, over many runs of `bench sample LOAD`.
 //! - `bench numbers`: nanoseconds an opening, over many runs of `bench sample DIGITS`.
 //! - `bench guest`: nanoseconds a put and a collect, over many runs of `bench sample guest RING`.
+//! - `bench lists`: nanoseconds an entry of a list and a single completion, over many runs of
+//!   `bench sample lists LOAD LENGTH`.
 //! - `bench memory`: what host and guest lend, and the stack of a call.
 //! - `bench rounds archive|metered|second LOAD ROUNDS`: rounds of one program, to count its
 //!   instructions; `metered` is the archive with a meter to each port.
+//! - `bench rounds lists|metered-lists LOAD LENGTH ROUNDS`: the archive's rounds with lists of LENGTH
+//!   entries, likewise.
 //! - `bench rounds archive DIGITS ROUNDS`: rounds of eight openings, likewise.
 //! - `bench rounds guest RING ROUNDS`: rounds of a ring filled and emptied by a guest, likewise.
 //!
@@ -17,6 +21,7 @@
 //! it.
 
 mod guest;
+mod lists;
 mod load;
 mod numbers;
 mod programs;
@@ -34,6 +39,14 @@ fn main() {
     match arguments[..] {
         ["times"] => times::print(),
         ["guest"] => guest::print(),
+        ["lists"] => lists::print(),
+        ["sample", "lists", segments, ports, rings, length] => {
+            lists::sample(list(segments, ports, rings, length))
+        }
+        ["rounds", program @ ("lists" | "metered-lists"), segments, ports, rings, length, rounds] => {
+            let load = list(segments, ports, rings, length);
+            lists::run(load, number(rounds), program == "metered-lists")
+        }
         ["sample", "guest", segments, requests, order] => {
             guest::sample(ring(segments, requests, order))
         }
@@ -53,7 +66,7 @@ fn main() {
             run_program(program, load, number(rounds))
         }
         _ => panic!(
-            "times, numbers, guest, memory, sample LOAD|DIGITS|guest RING, rounds archive|metered|second LOAD ROUNDS, rounds archive DIGITS ROUNDS, or rounds guest RING ROUNDS; LOAD is SEGMENTS PORTS RINGS, for rounds also with SECTOR-SIZE LENGTH, RING is SEGMENTS REQUESTS ORDER"
+            "times, numbers, guest, lists, memory, sample LOAD|DIGITS|guest RING|lists LOAD LENGTH, rounds archive|metered|second LOAD ROUNDS, rounds lists|metered-lists LOAD LENGTH ROUNDS, rounds archive DIGITS ROUNDS, or rounds guest RING ROUNDS; LOAD is SEGMENTS PORTS RINGS, for rounds also with SECTOR-SIZE LENGTH, RING is SEGMENTS REQUESTS ORDER"
         ),
     }
 }
@@ -65,6 +78,10 @@ fn number(text: &str) -> usize {
 fn load(segments: &str, ports: &str, rings: &str) -> Load {
     let rings = Rings::of(rings).expect("64-bit, 32-bit, both, 64-bit-two-page or 32-bit-two-page");
     Load::new(number(segments), number(ports), rings)
+}
+
+fn list(segments: &str, ports: &str, rings: &str, length: &str) -> lists::Load {
+    lists::Load::new(load(segments, ports, rings), number(length))
 }
 
 fn ring(segments: &str, requests: &str, order: &str) -> guest::Load {

@@ -168,5 +168,8 @@ pub fn run(digits: usize, rounds: usize) {
 pub fn print() {
     println!("| digits | archive | second program | ratio | lowest to highest |");
     println!("|---|---|---|---|---|");
-    samples::print_lines([1, 8, 15, 16, 20, 65_000].map(|digits: usize| [digits.to_string()]));
+    samples::print_lines(
+        [1, 8, 15, 16, 20, 65_000].map(|digits: usize| [digits.to_string()]),
+        0,
+    );
 }

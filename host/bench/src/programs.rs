@@ -10,7 +10,7 @@ use second::{Backend, Plan, Status, Turned};
 /// What a call gives that was done.
 pub const DONE: u32 = 0;
 /// A status without its sign.
-const OKAY: u64 = Status::Okay as u64;
+pub const OKAY: u64 = Status::Okay as u64;
 
 /// The calls that are measured.
 pub trait Program {
@@ -45,6 +45,10 @@ impl Archive {
             turn: [0; TURN_WORDS],
             done: [0; DONE_WORDS],
         }
+    }
+
+    pub fn memory_mut(&mut self) -> &mut Memory {
+        &mut self.memory
     }
 }
 

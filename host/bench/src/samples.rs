@@ -103,9 +103,13 @@ pub fn print_lines_alone<const WORDS: usize, const LOADS: usize>(loads: [[String
     }
 }
 
-/// A line to a load, which is given by the words that name it: the medians over the processes, the
-/// ratio of both programs' last cells, and the lowest and the highest ratio of a single process.
-pub fn print_lines<const WORDS: usize, const LOADS: usize>(loads: [[String; WORDS]; LOADS]) {
+/// A line to a load, which is given by the words that name it: those from `shown` on, the medians over the
+/// processes, the ratio of both programs' last cells, and the lowest and the highest ratio of a single
+/// process.
+pub fn print_lines<const WORDS: usize, const LOADS: usize>(
+    loads: [[String; WORDS]; LOADS],
+    shown: usize,
+) {
     for (rows, load) in rows(&loads).iter().zip(&loads) {
         let ratio = |cells: &[f64]| cells[cells.len() / 2 - 1] / cells[cells.len() - 1];
         let ratios = || rows.iter().map(|row| ratio(row));
@@ -114,7 +118,8 @@ pub fn print_lines<const WORDS: usize, const LOADS: usize>(loads: [[String; WORD
             ratios().fold(0.0, f64::max),
         );
         let medians = medians(rows);
-        let (load, cells, ratio) = (load.join(" | "), cells(&medians), ratio(&medians));
+        let load = load[shown..].join(" | ");
+        let (cells, ratio) = (cells(&medians), ratio(&medians));
         println!("| {load} | {cells} | {ratio:.2} | {lowest:.2} to {highest:.2} |");
     }
 }

@@ -1,11 +1,11 @@
 //! Memory: the stack that a call of the archive needs, found by running it on a painted one.
 
 use crate::guest::{Calls, Load, Order, Ring};
-use generate::{run, Core};
+use generate::{run, Core, List};
 use kernelharp::layout::PAGE_SLOTS;
 use kernelharp::words::{
-    CollectWords, DoneWords, PutWords, RequestWords, TurnWords, DONE_WORDS, REQUEST_WORDS,
-    TURN_WORDS,
+    entry, CollectWords, DoneWords, ManyWords, PutWords, RequestWords, TurnWords, DONE_WORDS,
+    MANY_WORDS, REQUEST_WORDS, TURN_WORDS,
 };
 use kernelharp::{Completion, GuestMemory, Memory, Meter, GUEST_WORDS, MEMORY_WORDS};
 use second::Backend;
@@ -21,6 +21,7 @@ extern "C" {
     fn kh_close();
     fn kh_turn();
     fn kh_complete();
+    fn kh_complete_many();
     fn kh_guest_put();
     fn kh_guest_collect();
 }
@@ -87,8 +88,8 @@ impl Stack {
 struct Painted {
     memory: Memory,
     stack: Box<Stack>,
-    /// The most bytes of stack that open, close, turn and complete wrote.
-    deepest: [usize; 4],
+    /// The most bytes of stack that open, close, turn, complete and complete_many wrote.
+    deepest: [usize; 5],
 }
 
 impl Painted {
@@ -96,16 +97,16 @@ impl Painted {
         Painted {
             memory: Memory::new().expect("an archive of this package"),
             stack: Stack::new(),
-            deepest: [0; 4],
+            deepest: [0; 5],
         }
     }
 
-    /// Calls one of the four functions.
+    /// Calls one of the five functions.
     ///
     /// # Safety
     /// The function may be called with the arguments named, after the memory's own pointer.
     unsafe fn call(&mut self, which: usize, arguments: [u64; 7]) -> u32 {
-        let function = [kh_open, kh_close, kh_turn, kh_complete][which];
+        let function = [kh_open, kh_close, kh_turn, kh_complete, kh_complete_many][which];
         let (memory, deepest) = (self.memory.words_mut(), &mut self.deepest[which]);
         // SAFETY: as this function's own.
         unsafe {
@@ -211,12 +212,25 @@ impl Core for Painted {
         unsafe { self.call(3, arguments) }
     }
 
+    fn complete_many(&mut self, rings: &mut [u8], list: List, answer: &mut ManyWords) -> u32 {
+        let [rings, rings_bytes] = lent_mut(rings);
+        let ([entries, entry_words], [answer, _]) = (lent(list.entries), lent_mut(answer));
+        let port = u64::from(list.port);
+        let arguments = [rings, rings_bytes, port, entries, entry_words, answer, 0];
+        // SAFETY: kh_complete_many's arguments, as in `turn`.
+        unsafe { self.call(4, arguments) }
+    }
+
     fn meter_turn(&self, meter: &mut Meter, returned: u32, answer: &TurnWords) {
         meter.turn(returned, answer);
     }
 
     fn meter_completion(&self, meter: &mut Meter, returned: u32, answer: &DoneWords) {
         meter.completion(returned, answer);
+    }
+
+    fn meter_many(&self, meter: &mut Meter, returned: u32, answer: &ManyWords) {
+        meter.many(returned, answer);
     }
 
     fn skip(&mut self, port: usize, requests: u32) {
@@ -234,7 +248,7 @@ pub fn print() {
     let mut painted = Painted::new();
     let run = run(&mut [&mut painted, &mut Backend::new()], SEED, CALLS);
     run.unwrap_or_else(|failure| panic!("{failure}"));
-    let [open, close, turn, complete] = painted.deepest;
+    let [open, close, turn, complete, list] = painted.deepest;
     let [put, collect] = guest_depths();
     println!("| memory | bytes |");
     println!("|---|---|");
@@ -242,6 +256,8 @@ pub fn print() {
         ("backend memory", MEMORY_WORDS),
         ("a turn's answer", TURN_WORDS),
         ("a completion's answer", DONE_WORDS),
+        ("an entry of a list", entry::WORDS),
+        ("a list's answer", MANY_WORDS),
         ("guest memory", GUEST_WORDS),
         ("a request to be put", REQUEST_WORDS),
     ] {
@@ -250,6 +266,7 @@ pub fn print() {
     for (name, bytes) in [
         ("turn", turn),
         ("completion", complete),
+        ("list of completions", list),
         ("open", open),
         ("close", close),
         ("put", put),

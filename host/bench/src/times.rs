@@ -35,5 +35,5 @@ pub fn sample(load: Load) {
 pub fn print() {
     println!("| segments | open ports | rings | archive: turn | completion | request | second program: turn | completion | request | ratio | lowest to highest |");
     println!("|---|---|---|---|---|---|---|---|---|---|---|");
-    samples::print_lines(LOADS.map(Load::words));
+    samples::print_lines(LOADS.map(Load::words), 0);
 }

@@ -6,13 +6,15 @@ use crate::profile::Profile;
 use crate::report::{Counts, Progress};
 use frontend::EventChannel;
 use generate::Random;
-use kernelharp::layout::PORTS;
+use kernelharp::layout::{ENTRIES, PORTS};
 use kernelharp::live::LiveBackend;
-use kernelharp::{Abi, Extent, Name, Operation, Pages, Plan, Port, Refusal, Sheet, Turn};
+use kernelharp::{
+    Abi, Entry, Extent, Name, Operation, Pages, Plan, Port, Refusal, Sheet, Status, Turn,
+};
 
 /// Turns in a row before the host goes on with the I/O.
 const BURST: usize = 64;
-/// Of a hundred completions, how many are asked for once more, or an old one is.
+/// Of a hundred calls that complete something, how many are made once more, or an old one is.
 const DOUBLED: u64 = 10;
 /// Turns of a billing period.
 const PERIOD: u64 = 500;
@@ -113,9 +115,7 @@ impl<'a> Host<'a> {
     }
 
     fn drain_and_close(&mut self, port: Port) -> Result<(), String> {
-        while !self.held[port.index()].is_empty() {
-            self.carry_out_one(port)?;
-        }
+        self.carry_out(port, self.held[port.index()].len())?;
         let closed = self.backend.close(port);
         closed.map_err(|refusal| format!("close of {port}: {refusal}"))?;
         self.broken[port.index()] = false;
@@ -163,29 +163,54 @@ impl<'a> Host<'a> {
     fn carry_out_some(&mut self) -> Result<(), String> {
         for port in Port::all() {
             let held = self.held[port.index()].len();
-            for _ in 0..self.random.index(held + 1).max(held.min(1)) {
-                self.carry_out_one(port)?;
-            }
+            let some = self.random.index(held + 1).max(held.min(1));
+            self.carry_out(port, some)?;
         }
         Ok(())
     }
 
+    /// Does so much of a port's I/O, and completes it in one call, as a disk's interrupt brings it.
+    fn carry_out(&mut self, port: Port, plans: usize) -> Result<(), String> {
+        let ended: Vec<Ended> = (0..plans).map(|_| self.carry_out_one(port)).collect();
+        let Some((last, _)) = ended.last() else {
+            return Ok(());
+        };
+        let (statuses, notify) = self.complete(port, &ended)?;
+        let counts = &mut self.counts.ports[port.index()];
+        counts.count_call(ended.len(), notify);
+        for ((plan, result), status) in ended.iter().zip(statuses) {
+            counts.count_completed(plan, *result, status);
+        }
+        self.notify_if(notify, port);
+        if self.random.chance(DOUBLED) {
+            self.complete_again(last.name)?;
+            self.list_again(port, &ended)?;
+        }
+        Ok(())
+    }
+
+    /// Completes plans of a port: several by a list, one by itself. Gives their statuses, and whether to
+    /// notify.
+    fn complete(&mut self, port: Port, ended: &[Ended]) -> Result<(Vec<Status>, bool), String> {
+        if let [(plan, result)] = ended {
+            let done = self.backend.complete(plan.name, *result);
+            let done = done.map_err(|refusal| format!("completion of {plan}: {refusal}"))?;
+            return Ok((vec![done.status], done.notify));
+        }
+        let done = self.backend.complete_many(port, &entries(ended));
+        let done = done.map_err(|refusal| format!("list of {port}: {refusal}"))?;
+        Ok((done.statuses().to_vec(), done.notify))
+    }
+
     /// Carries out one plan of a port that has some, in any order but across a barrier: what was
     /// started before a barrier is done before it, and what was started after it, after it.
-    fn carry_out_one(&mut self, port: Port) -> Result<(), String> {
+    fn carry_out_one(&mut self, port: Port) -> Ended {
         let held = &mut self.held[port.index()];
         let is_barrier = |plan: &Plan| plan.operation == Operation::Barrier;
         let before = held.iter().position(is_barrier).unwrap_or(held.len());
         let plan = held.remove(self.random.index(before.max(1)));
         let result = self.disks[port.index()].carry_out(&plan, &self.links[port.index()].frames);
-        let done = self.backend.complete(plan.name, result);
-        let done = done.map_err(|refusal| format!("completion of {plan}: {refusal}"))?;
-        self.counts.ports[port.index()].count_completed(&plan, result, done);
-        self.notify_if(done.notify, port);
-        if self.random.chance(DOUBLED) {
-            self.complete_again(plan.name)?;
-        }
-        Ok(())
+        (plan, result)
     }
 
     /// Completes a request a second time, and an older one too: both must be refused.
@@ -199,6 +224,22 @@ impl<'a> Host<'a> {
             }
             self.counts.ports[port].completions_refused += 1;
         }
+        Ok(())
+    }
+
+    /// Makes a list a second time, with what has been started since in front of it: refused whole.
+    fn list_again(&mut self, port: Port, ended: &[Ended]) -> Result<(), String> {
+        let held = self.held[port.index()].first();
+        let mut list: Vec<Entry> = held
+            .map(|plan| Entry::of(plan.name, 0))
+            .into_iter()
+            .collect();
+        list.extend(entries(&ended[..ended.len().min(ENTRIES - 1)]));
+        let doubled = self.backend.complete_many(port, &list);
+        if doubled != Err(Refusal::NotBusy) {
+            return Err(format!("a list of {port} made again: {doubled:?}"));
+        }
+        self.counts.ports[port.index()].completions_refused += 1;
         Ok(())
     }
 
@@ -224,6 +265,16 @@ impl<'a> Host<'a> {
             self.links[port.index()].to_guest.notify();
         }
     }
+}
+
+/// A plan that was carried out, and the result to complete it with.
+type Ended = (Plan, i32);
+
+fn entries(ended: &[Ended]) -> Vec<Entry> {
+    let entries = ended.iter();
+    entries
+        .map(|(plan, result)| Entry::of(plan.name, *result))
+        .collect()
 }
 
 /// No medium reads or writes a part of one of its sectors.

@@ -5,7 +5,7 @@ use crate::pattern::SECTOR;
 use crate::profile::Profile;
 use crate::tally::Tally;
 use kernelharp::layout::PORTS;
-use kernelharp::{Done, Meter, Plan, Reason, Sheet, Status};
+use kernelharp::{Meter, Plan, Reason, Sheet, Status};
 use std::io::{self, IsTerminal, Write};
 use std::sync::atomic::Ordering;
 use std::time::{Duration, Instant};
@@ -57,6 +57,10 @@ pub struct PortCounts {
     /// What its meter ought to say.
     pub own: Tally,
     pub completed: u64,
+    /// Calls that completed something, the most that one of them did, and those that gave a notice.
+    pub calls: u64,
+    pub longest: usize,
+    pub notices: u64,
     /// By reason, from 21.
     pub refused: [u64; REASONS],
     pub overruns: u64,
@@ -74,9 +78,16 @@ impl PortCounts {
         self.own.count_answer(status);
     }
 
-    pub fn count_completed(&mut self, plan: &Plan, result: i32, done: Done) {
+    /// Counts a call that completed so many requests.
+    pub fn count_call(&mut self, completed: usize, notify: bool) {
+        self.calls += 1;
+        self.longest = self.longest.max(completed);
+        self.notices += u64::from(notify);
+    }
+
+    pub fn count_completed(&mut self, plan: &Plan, result: i32, status: Status) {
         self.completed += 1;
-        self.own.count_answer(done.status);
+        self.own.count_answer(status);
         if result == plan.expected_result() {
             self.secure += u64::from(plan.secure);
             if !plan.extents().is_empty() {
@@ -89,6 +100,9 @@ impl PortCounts {
         self.metered.add(&other.metered.0);
         self.own.add(&other.own.0);
         self.completed += other.completed;
+        self.calls += other.calls;
+        self.longest = self.longest.max(other.longest);
+        self.notices += other.notices;
         for (sum, part) in self.refused.iter_mut().zip(other.refused) {
             *sum += part;
         }
@@ -239,8 +253,13 @@ fn print_sums(counts: &Counts, checks: &Checks) {
         counts.turns, counts.idle, counts.sleeps
     );
     println!(
-        "completions: {} done, {} doubled or late ones refused",
-        total.completed, total.completions_refused
+        "completions: {} done by {} calls, up to {} in one, {} doubled or late ones refused",
+        total.completed, total.calls, total.longest, total.completions_refused
+    );
+    println!(
+        "notices of completions: {}, {:.1} completions a notice",
+        total.notices,
+        total.completed as f64 / total.notices.max(1) as f64
     );
     println!(
         "guest's half: {} requests put and collected, {} malformed ones refused before the ring",

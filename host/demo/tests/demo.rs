@@ -81,6 +81,21 @@ fn the_demo_runs_small() {
         assert_eq!(pair[1] == "withdrawn", number == 23);
     }
     assert_eq!(reasons.len(), 18);
+    // Several completions to a call, and at least as many to a notice as to a call.
+    let completions = line(&text, "completions: ").replace(',', "");
+    let words = completions.split_whitespace();
+    let figures: Vec<u64> = words.filter_map(|word| word.parse().ok()).collect();
+    let [done, calls, longest, refused] = figures[..] else {
+        panic!("{completions}");
+    };
+    assert!(calls < done && (2..=64).contains(&longest) && refused > 0);
+    let notices = line(&text, "notices of completions: ").replace(',', "");
+    let words = notices.split_whitespace();
+    let figures: Vec<f64> = words.filter_map(|word| word.parse().ok()).collect();
+    let [notices, ratio] = figures[..] else {
+        panic!("{notices}");
+    };
+    assert!(notices > 0.0 && notices <= calls as f64 && ratio > 1.0);
     let secure = line(&text, "secure discards: ");
     assert!(!secure.contains(" 0 "), "{secure}");
     line(&text, "days rolled by the boards: 2,");

@@ -4,6 +4,7 @@ mod boundaries;
 mod classes;
 mod completions;
 mod discards;
+mod lists;
 mod meters;
 mod rings;
 mod sheets;
@@ -20,7 +21,7 @@ use kernelharp::layout::{
     read_u32, ring, Abi, HEADER_BYTES, PAGE_BYTES, PORTS, REQ_EVENT, REQ_PROD, RING_BYTES, RSP_PROD,
 };
 use second::{read_sheet, Disk, Refusal};
-use std::collections::HashSet;
+use std::collections::{HashMap, HashSet};
 use std::fmt;
 
 /// How often each class of calls and answers occurred.
@@ -44,9 +45,22 @@ struct PortBooks {
     ring: Ring,
     /// How many requests were passed over.
     skipped: u32,
+    /// The result expected of each tag's last request.
+    expected: HashMap<u32, i32>,
     /// Completed lately in this opening, and in the one before.
     completed: HashSet<(u32, u32)>,
     completed_before: HashSet<(u32, u32)>,
+}
+
+impl PortBooks {
+    /// A request was completed. Says whether another was named so in the opening before.
+    fn note_completed(&mut self, named: (u32, u32)) -> bool {
+        if self.completed.len() > 1000 {
+            self.completed.clear();
+        }
+        self.completed.insert(named);
+        self.completed_before.contains(&named)
+    }
 }
 
 impl Census {
@@ -159,6 +173,20 @@ impl Census {
                     self.note_completion(history, left, port as usize, (tag, serial), answer);
                 } else {
                     self.note_refused_completion(history, lent, port, (tag, serial), code);
+                }
+            }
+            Event::CompleteMany {
+                lent,
+                left,
+                port,
+                entries,
+                code,
+                answer,
+            } => {
+                if code == 0 {
+                    self.note_list(history, (lent, left), port as usize, entries, answer);
+                } else {
+                    self.note_refused_list(history, lent, port, entries, code);
                 }
             }
             Event::Zeroed { port } => self.note_zeroing(history, port),

@@ -2,12 +2,12 @@
 
 mod calls;
 mod guests;
+mod lists;
 
 use crate::{Call, Outcome, Random, Ring, Step, World};
 use history::State;
 use kernelharp::layout::PORTS;
-use kernelharp::words::{kind, turn, TurnWords};
-use kernelharp::Completion;
+use kernelharp::words::{entry, kind, turn, TurnWords};
 use second::{read_sheet, Disk, Operation};
 use std::collections::VecDeque;
 
@@ -62,6 +62,11 @@ impl Guest {
             finished: VecDeque::new(),
             fresh: false,
         }
+    }
+
+    /// The index of the next response.
+    fn answered(&self) -> u32 {
+        self.taken.wrapping_sub(self.begun.len() as u32)
     }
 
     /// How far req_prod may run ahead of the requests taken.
@@ -132,6 +137,10 @@ impl Generator {
         self.set_up_rings(world, &mut writes);
         self.guests_write(world, &mut writes);
         let call = self.choose_call();
+        if let Call::CompleteMany { port, entries, .. } = &call {
+            let responses = entries.len() / entry::WORDS;
+            self.ask_for_event(*port, responses as u32, &mut writes);
+        }
         Step { writes, call }
     }
 
@@ -144,7 +153,17 @@ impl Generator {
             Call::Open { port, ref sheet } => self.opened(port as usize, sheet),
             Call::Close { port } => self.guests[port as usize].state = State::Closed,
             Call::Turn { .. } => self.turned(&outcome.turned),
-            Call::Complete { named, .. } => self.completed(named),
+            Call::Complete { named, .. } => {
+                self.completed(named.port, named.tag, named.serial);
+            }
+            Call::CompleteMany {
+                port, ref entries, ..
+            } => {
+                for entry in entries.chunks_exact(entry::WORDS) {
+                    let [tag, serial] = [entry::TAG, entry::SERIAL].map(|at| entry[at] as u32);
+                    self.completed(port, tag, serial);
+                }
+            }
         }
     }
 
@@ -182,9 +201,8 @@ impl Generator {
         }
     }
 
-    fn completed(&mut self, named: Completion) {
-        let Completion { tag, serial, .. } = named;
-        let Some(guest) = self.guests.get_mut(named.port as usize) else {
+    fn completed(&mut self, port: u32, tag: u32, serial: u32) {
+        let Some(guest) = self.guests.get_mut(port as usize) else {
             return;
         };
         guest
@@ -210,7 +228,7 @@ impl Generator {
 }
 
 /// The result that a started request is expected to have (rule 6.9).
-fn expected(words: &TurnWords) -> i32 {
+pub(crate) fn expected(words: &TurnWords) -> i32 {
     match Operation::from_byte(words[turn::OPERATION] as u8) {
         Some(Operation::Flush | Operation::Discard) => 0,
         _ => words[turn::COUNT] as i32,

@@ -1,6 +1,6 @@
 //! Random lists of calls of the guest's half (section 16), on a page that a made-up backend writes.
 //!
-//! A [`GuestStep`] is what that backend writes, and then one call. As with the four calls of a backend,
+//! A [`GuestStep`] is what that backend writes, and then one call. As with the calls of a backend,
 //! the steps look at the first program's answers, and [`run_guests`] stops at the first difference.
 
 mod causes;

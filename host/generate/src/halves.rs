@@ -12,7 +12,7 @@ use crate::{Core, GuestCall, GuestCore, GuestOutcome, Outcome, Step, World};
 use generator::HalvesGenerator;
 use history::{Event, HalvesEvent, HalvesHistory, History};
 use kernelharp::layout::{ring, ring_mut, Abi, Pages, PAGE_BYTES, PAGE_SLOTS};
-use kernelharp::words::{collect, done, kind, request, turn, TurnWords};
+use kernelharp::words::{collect, done, kind, many, request, turn, TurnWords};
 
 /// One pair of programs.
 pub struct Halves<'a> {
@@ -198,6 +198,9 @@ const CLASSES: &[&str] = &[
     "completed, notify no",
     "completed, notify yes",
     "idle with requests in flight",
+    "list completed, 32 entries",
+    "list completed, notify no",
+    "list completed, notify yes",
     "nothing to collect",
     "nothing to collect, requests in flight",
     "put after the port is closed",
@@ -259,6 +262,17 @@ fn note_backend(tally: &mut Tally, halves: &HalvesHistory, port: usize, event: &
         } if named as usize == port => {
             let class = ["completed, notify no", "completed, notify yes"];
             tally.tick(class[usize::from(answer[done::NOTIFY] == 1)]);
+        }
+        Event::CompleteMany {
+            port: named,
+            code: 0,
+            answer,
+            ..
+        } if named as usize == port && answer[many::COUNT] > 1 => {
+            let class = ["list completed, notify no", "list completed, notify yes"];
+            tally.tick(class[usize::from(answer[many::NOTIFY] == 1)]);
+            let all = answer[many::COUNT] == PAGE_SLOTS as u64;
+            tally.tick_if(all, "list completed, 32 entries");
         }
         _ => {}
     }

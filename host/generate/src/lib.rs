@@ -40,7 +40,7 @@ pub use guest::{
 };
 pub use halves::{run_halves, Halves, HalvesReport};
 pub use meters::{meter_of, numbers};
-pub use programs::{done_words, for_second, turn_words, Core};
+pub use programs::{done_words, for_second, many_words, turn_words, Core, List};
 pub use random::Random;
 pub use ring::Ring;
 pub use run::{run, Failure, Report};
@@ -49,7 +49,7 @@ pub use world::{Outcome, World, UNTOUCHED};
 
 use kernelharp::Completion;
 
-/// One of the four calls. Buffers of another length than due hold the first bytes of the due one,
+/// One of the calls. Buffers of another length than due hold the first bytes of the due one,
 /// then zeros.
 #[derive(Clone, Debug, PartialEq, Eq)]
 pub enum Call {
@@ -78,6 +78,15 @@ pub enum Call {
         rings_bytes: usize,
         /// The request named, and its result.
         named: Completion,
+    },
+    /// Complete a list of started requests.
+    CompleteMany {
+        /// How many bytes of rings are lent.
+        rings_bytes: usize,
+        /// The port named.
+        port: u32,
+        /// The words of the list, three to an entry where they are whole ones.
+        entries: Vec<u64>,
     },
 }
 

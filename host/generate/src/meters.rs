@@ -7,7 +7,9 @@
 use crate::{Call, Core, Outcome, Random, UNTOUCHED};
 use history::Record;
 use kernelharp::layout::PORTS;
-use kernelharp::words::{done, kind, turn, DoneWords, TurnWords, DONE_WORDS, TURN_WORDS};
+use kernelharp::words::{
+    done, kind, many, turn, DoneWords, ManyWords, TurnWords, DONE_WORDS, MANY_WORDS, TURN_WORDS,
+};
 use kernelharp::Meter;
 use std::hint::black_box;
 
@@ -44,8 +46,23 @@ pub const STATUSES: [u64; 13] = [
     u64::MAX,
 ];
 
+/// Words in the place of a list's number of entries: those that there is room for, and others.
+pub const COUNTS: [u64; 11] = [
+    0,
+    1,
+    2,
+    63,
+    64,
+    65,
+    67,
+    1 << 32,
+    (1 << 32) + 1,
+    1 << 63,
+    u64::MAX,
+];
+
 /// What a call can return that is not done, and what none does.
-pub const REFUSALS: [u32; 9] = [1, 2, 4, 6, 15, 255, 1 << 16, 1 << 31, u32::MAX];
+pub const REFUSALS: [u32; 10] = [1, 2, 4, 6, 7, 15, 255, 1 << 16, 1 << 31, u32::MAX];
 
 /// What the records next to those in use hold.
 const NEIGHBOUR: Meter = meter_of([UNTOUCHED; 4]);
@@ -72,6 +89,7 @@ pub struct Records {
     meters: [Meter; PORTS + 2],
     turned: TurnWords,
     done: DoneWords,
+    many: ManyWords,
 }
 
 impl Records {
@@ -83,6 +101,7 @@ impl Records {
             meters,
             turned: [UNTOUCHED; TURN_WORDS],
             done: [UNTOUCHED; DONE_WORDS],
+            many: [UNTOUCHED; MANY_WORDS],
         }
     }
 
@@ -96,7 +115,7 @@ impl Records {
         std::array::from_fn(|port| numbers(&self.of(port)))
     }
 
-    /// Hands the answer of a turn or a completion over to a port's record.
+    /// Hands the answer of a turn, a completion or a list over to a port's record.
     pub fn hand_over(&mut self, core: &dyn Core, port: usize, call: &Call, outcome: &Outcome) {
         let meter = &mut self.meters[1 + port];
         let was_done = outcome.code == 0;
@@ -112,6 +131,12 @@ impl Records {
                     self.done = outcome.done;
                 }
                 core.meter_completion(meter, outcome.code, &self.done);
+            }
+            Call::CompleteMany { .. } => {
+                if was_done {
+                    self.many = outcome.many;
+                }
+                core.meter_many(meter, outcome.code, &self.many);
             }
             Call::Open { .. } | Call::Close { .. } => {}
         }
@@ -145,6 +170,7 @@ pub fn named_port(call: &Call, outcome: &Outcome) -> Option<usize> {
             Some(outcome.turned[turn::PORT] as usize)
         }
         Call::Complete { .. } => Some(outcome.done[done::PORT] as usize),
+        Call::CompleteMany { .. } => Some(outcome.many[many::PORT] as usize),
         _ => None,
     }
 }
@@ -156,6 +182,8 @@ pub enum Words {
     Turn(Box<TurnWords>),
     /// A completion's.
     Completion(DoneWords),
+    /// A list's.
+    Many(Box<ManyWords>),
 }
 
 /// Words handed over to a record, each of any value, some times in a row.
@@ -181,6 +209,7 @@ impl Trial {
                 Words::Completion(words) => {
                     core.meter_completion(&mut meters[1], self.returned, words);
                 }
+                Words::Many(words) => core.meter_many(&mut meters[1], self.returned, words),
             }
         }
         // What is lent to be read counts as unchanged; this makes the compiler look.
@@ -227,6 +256,7 @@ impl Billing {
         let (returned, words) = match call {
             Call::Turn { .. } if own => (outcome.code, Words::Turn(Box::new(outcome.turned))),
             Call::Complete { .. } if own => (outcome.code, Words::Completion(outcome.done)),
+            Call::CompleteMany { .. } if own => (outcome.code, Words::Many(Box::new(outcome.many))),
             _ => (self.any_returned(), self.any_words()),
         };
         Some(Trial {
@@ -253,10 +283,20 @@ impl Billing {
         }
     }
 
+    fn any_status(&mut self) -> u64 {
+        let any = self.random.word();
+        let other = self.random.pick(&[0, 1, 2, any]);
+        self.one_of(&STATUSES, other)
+    }
+
     fn any_words(&mut self) -> Words {
-        let any_status = self.random.word();
-        let other = self.random.pick(&[0, 1, 2, any_status]);
-        let status = self.one_of(&STATUSES, other);
+        if self.random.chance(40) {
+            let mut words = [0; MANY_WORDS].map(|_: u64| self.any_status());
+            let any_count = self.random.below(70);
+            words[many::COUNT] = self.one_of(&COUNTS, any_count);
+            return Words::Many(Box::new(words));
+        }
+        let status = self.any_status();
         if self.random.chance(40) {
             let mut words = [0; DONE_WORDS].map(|_: u64| self.random.word());
             words[done::STATUS] = status;

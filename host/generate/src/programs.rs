@@ -1,11 +1,20 @@
-//! What is compared: programs with the four calls and the counters as the C interface has them.
+//! What is compared: programs with the calls and the counters as the C interface has them.
 
-use kernelharp::words::{done, extent, kind, turn};
-use kernelharp::words::{DoneWords, TurnWords, DONE_WORDS, TURN_WORDS};
+use kernelharp::words::{done, extent, kind, many, turn};
+use kernelharp::words::{DoneWords, ManyWords, TurnWords, DONE_WORDS, MANY_WORDS, TURN_WORDS};
 use kernelharp::{Completion, Memory, Meter};
-use second::{Backend, Done, Plan, Refusal, Turned};
+use second::{Backend, Done, DoneMany, Plan, Refusal, Turned};
 
-/// The four calls over slices of any length. Each gives 0 when it was done, else the refusal's
+/// A list of completions, as a call is handed it.
+#[derive(Clone, Copy, Debug)]
+pub struct List<'a> {
+    /// The port named.
+    pub port: u32,
+    /// The words of its entries, three to each where they are whole ones.
+    pub entries: &'a [u64],
+}
+
+/// The calls over slices of any length. Each gives 0 when it was done, else the refusal's
 /// number; then nothing that was lent has changed, `answer` included. And what raises a record of
 /// counters, which is no part of the program.
 pub trait Core {
@@ -17,10 +26,14 @@ pub trait Core {
     fn turn(&mut self, rings: &mut [u8], grants: &[u8], answer: &mut TurnWords) -> u32;
     /// `kh_complete`
     fn complete(&mut self, rings: &mut [u8], named: Completion, answer: &mut DoneWords) -> u32;
+    /// `kh_complete_many`
+    fn complete_many(&mut self, rings: &mut [u8], list: List, answer: &mut ManyWords) -> u32;
     /// `kh_meter_turn`
     fn meter_turn(&self, meter: &mut Meter, returned: u32, answer: &TurnWords);
     /// `kh_meter_completion`
     fn meter_completion(&self, meter: &mut Meter, returned: u32, answer: &DoneWords);
+    /// `kh_meter_many`
+    fn meter_many(&self, meter: &mut Meter, returned: u32, answer: &ManyWords);
 
     /// No call: a port that was just opened is as after so many requests, each taken and answered.
     fn skip(&mut self, port: usize, requests: u32);
@@ -54,12 +67,20 @@ impl Core for Memory {
         Memory::complete(self, rings, named, answer)
     }
 
+    fn complete_many(&mut self, rings: &mut [u8], list: List, answer: &mut ManyWords) -> u32 {
+        Memory::complete_many(self, rings, list.port, list.entries, answer)
+    }
+
     fn meter_turn(&self, meter: &mut Meter, returned: u32, answer: &TurnWords) {
         meter.turn(returned, answer);
     }
 
     fn meter_completion(&self, meter: &mut Meter, returned: u32, answer: &DoneWords) {
         meter.completion(returned, answer);
+    }
+
+    fn meter_many(&self, meter: &mut Meter, returned: u32, answer: &ManyWords) {
+        meter.many(returned, answer);
     }
 
     fn skip(&mut self, port: usize, requests: u32) {
@@ -95,12 +116,21 @@ impl Core for Backend {
         })
     }
 
+    fn complete_many(&mut self, rings: &mut [u8], list: List, answer: &mut ManyWords) -> u32 {
+        let done = Backend::complete_many(self, rings, list.port, list.entries);
+        code(done, |done| *answer = many_words(&done))
+    }
+
     fn meter_turn(&self, meter: &mut Meter, returned: u32, answer: &TurnWords) {
         lend(meter, |own| own.turn_words(returned, answer));
     }
 
     fn meter_completion(&self, meter: &mut Meter, returned: u32, answer: &DoneWords) {
         lend(meter, |own| own.completion_words(returned, answer));
+    }
+
+    fn meter_many(&self, meter: &mut Meter, returned: u32, answer: &ManyWords) {
+        lend(meter, |own| own.many_words(returned, answer));
     }
 
     fn skip(&mut self, port: usize, requests: u32) {
@@ -197,6 +227,19 @@ pub fn done_words(answer: &Done) -> DoneWords {
     words[done::PORT] = u64::from(answer.port);
     words[done::STATUS] = magnitude(answer.status);
     words[done::NOTIFY] = u64::from(answer.notify);
+    words
+}
+
+/// A list of the second program in the words of the C interface; what is not named is 0.
+pub fn many_words(answer: &DoneMany) -> ManyWords {
+    let mut words = [0; MANY_WORDS];
+    words[many::PORT] = u64::from(answer.port);
+    words[many::COUNT] = answer.statuses.len() as u64;
+    words[many::NOTIFY] = u64::from(answer.notify);
+    let places = words[many::STATUSES..].iter_mut();
+    for (word, status) in places.zip(&answer.statuses) {
+        *word = magnitude(*status);
+    }
     words
 }
 

@@ -171,7 +171,7 @@ impl Run<'_> {
 }
 
 /// Runs a list of `calls` random calls through every program at once. After each call all must
-/// have given the same code, the same words and the same rings, grants and sheet; a refused call
+/// have given the same code, the same words and the same rings, grants, sheet and entries; a refused call
 /// must have left memory and answer; and demand 3 must hold of the first program's history. All
 /// must have raised the same records by the answers, the first one's as its history says. Half of the
 /// ports that are opened begin at indices other than 0, and the history counts on from there.
@@ -259,6 +259,7 @@ fn compare_one(
     }
     same_words("turn word", &outcome.turned, &other.turned)?;
     same_words("done word", &outcome.done, &other.done)?;
+    same_words("word of a list", &outcome.many, &other.many)?;
     same_words("rings byte", &world.rings, &other_world.rings)?;
     same_words("grants byte", &world.grants, &other_world.grants)?;
     if outcome.code == Refusal::WrongLength as u32 {
@@ -267,9 +268,14 @@ fn compare_one(
         let (odd, other) = (&world.odd_grants, &other_world.odd_grants);
         same_words("odd grants byte", odd, other)?;
     }
-    if let Call::Open { sheet, .. } = call {
-        same_words("sheet byte", sheet, &world.sheet)?;
-        same_words("sheet byte", sheet, &other_world.sheet)?;
+    for world in [world, other_world] {
+        match call {
+            Call::Open { sheet, .. } => same_words("sheet byte", sheet, &world.sheet)?,
+            Call::CompleteMany { entries, .. } => {
+                same_words("word of the entries", entries, &world.entries)?;
+            }
+            _ => {}
+        }
     }
     Ok(())
 }
@@ -295,7 +301,9 @@ fn answer_kept(call: &Call, outcome: &Outcome) -> Result<(), String> {
         || outcome.turned.iter().all(|&word| word == UNTOUCHED);
     let done_kept = done && matches!(call, Call::Complete { .. })
         || outcome.done.iter().all(|&word| word == UNTOUCHED);
-    if turned_kept && done_kept {
+    let many_kept = done && matches!(call, Call::CompleteMany { .. })
+        || outcome.many.iter().all(|&word| word == UNTOUCHED);
+    if turned_kept && done_kept && many_kept {
         Ok(())
     } else {
         Err("a refused call wrote into its answer".into())

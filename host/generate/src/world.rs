@@ -1,12 +1,12 @@
 //! The buffers that a program is lent, and making a step's call of it.
 
-use crate::{Buffer, Call, Core, Step};
+use crate::{Buffer, Call, Core, List, Step};
 use history::Event;
 use kernelharp::layout::{GRANTS_BYTES, RINGS_BYTES};
-use kernelharp::words::{DoneWords, TurnWords, DONE_WORDS, TURN_WORDS};
+use kernelharp::words::{DoneWords, ManyWords, TurnWords, DONE_WORDS, MANY_WORDS, TURN_WORDS};
 use std::iter;
 
-/// What a call gave: its code, and the words of a turn or a completion.
+/// What a call gave: its code, and the words of a turn, a completion or a list of completions.
 #[derive(Clone, Debug, PartialEq, Eq)]
 pub struct Outcome {
     /// 0 or the refusal.
@@ -15,6 +15,8 @@ pub struct Outcome {
     pub turned: TurnWords,
     /// A completion's words; another call leaves [`UNTOUCHED`] in them.
     pub done: DoneWords,
+    /// The words of a list of completions; another call leaves [`UNTOUCHED`] in them.
+    pub many: ManyWords,
 }
 
 /// What answers hold before a call, to see that a refused one does not write there.
@@ -34,6 +36,8 @@ pub struct World {
     pub(crate) odd_left: Vec<u8>,
     /// The node sheet as the last open left it.
     pub(crate) sheet: Vec<u8>,
+    /// The words of the entries as the last list left them.
+    pub(crate) entries: Vec<u64>,
 }
 
 impl Default for World {
@@ -46,6 +50,7 @@ impl Default for World {
             odd_grants: Vec::new(),
             odd_left: Vec::new(),
             sheet: Vec::new(),
+            entries: Vec::new(),
         }
     }
 }
@@ -92,6 +97,7 @@ impl World {
             code: 0,
             turned: [UNTOUCHED; TURN_WORDS],
             done: [UNTOUCHED; DONE_WORDS],
+            many: [UNTOUCHED; MANY_WORDS],
         };
         outcome.code = match *call {
             Call::Open { port, ref sheet } => {
@@ -110,6 +116,22 @@ impl World {
             Call::Complete { rings_bytes, named } => {
                 let (rings, _) = self.lend(rings_bytes, GRANTS_BYTES);
                 core.complete(rings, named, &mut outcome.done)
+            }
+            Call::CompleteMany {
+                rings_bytes,
+                port,
+                ref entries,
+            } => {
+                let mut lent = std::mem::take(&mut self.entries);
+                lent.clone_from(entries);
+                let (rings, _) = self.lend(rings_bytes, GRANTS_BYTES);
+                let list = List {
+                    port,
+                    entries: &lent,
+                };
+                let code = core.complete_many(rings, list, &mut outcome.many);
+                self.entries = lent;
+                code
             }
         };
         outcome
@@ -168,6 +190,18 @@ impl World {
                 result: named.result,
                 code,
                 answer: &outcome.done,
+            },
+            Call::CompleteMany {
+                rings_bytes,
+                port,
+                ref entries,
+            } => Event::CompleteMany {
+                lent: &self.lent,
+                left: self.left(rings_bytes),
+                port,
+                entries,
+                code,
+                answer: &outcome.many,
             },
         }
     }

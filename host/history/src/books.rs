@@ -1,7 +1,8 @@
 //! What is counted of a port since its opening.
 
+use crate::list::Name;
 use crate::places::{Pair, Ring};
-use std::collections::HashMap;
+use std::collections::{HashMap, HashSet};
 
 /// A request that was taken and has no response yet (rule 12.16).
 #[derive(Clone, Debug)]
@@ -64,9 +65,17 @@ impl Books {
         matches!(self.unfinished.get(tag as usize), Some(Some(_)))
     }
 
-    pub fn is_busy(&self, tag: u32, serial: u32) -> bool {
-        let place = self.unfinished.get(tag as usize);
-        matches!(place, Some(Some(request)) if request.serial == serial)
+    /// Whether each name is that of an unfinished request, and no tag is named again.
+    pub fn are_busy(&self, names: &[Name]) -> bool {
+        let mut tags = HashSet::new();
+        let mut names = names.iter();
+        names.all(|&(tag, serial)| self.is_busy(tag, serial) && tags.insert(tag))
+    }
+
+    fn is_busy(&self, tag: u64, serial: u64) -> bool {
+        let tag = usize::try_from(tag).ok();
+        let place = tag.and_then(|tag| self.unfinished.get(tag));
+        matches!(place, Some(Some(request)) if u64::from(request.serial) == serial)
     }
 
     fn weigh(&mut self, pair: Pair, change: i64) {

@@ -1,7 +1,7 @@
 //! One call of a history, as the checker is told of it (rule 12.6), one zeroing of a record, or calls that
 //! it is not told of one by one.
 
-use crate::places::{DONE_WORDS, TURN_WORDS};
+use crate::places::{DONE_WORDS, MANY_WORDS, TURN_WORDS};
 use crate::refusal::NONE;
 
 /// One entry of the history: a call, what the host did between calls to a record of counters, or requests
@@ -58,6 +58,22 @@ pub enum Event<'a> {
         /// `kh_complete`'s answer.
         answer: &'a [u64; DONE_WORDS],
     },
+    /// A list of completions of one port.
+    CompleteMany {
+        /// The rings before the call.
+        lent: &'a [u8],
+        /// The rings after the call.
+        left: &'a [u8],
+        /// The port named.
+        port: u32,
+        /// The words of the list, three to an entry: tag, serial, and the host's result, of which demand 3
+        /// says nothing.
+        entries: &'a [u64],
+        /// 0 or the refusal.
+        code: u32,
+        /// `kh_complete_many`'s answer.
+        answer: &'a [u64; MANY_WORDS],
+    },
     /// The host zeroed a record (rule 15.5).
     Zeroed {
         /// The port whose record it is, below 8.
@@ -81,7 +97,8 @@ impl Event<'_> {
             Event::Open { code, .. }
             | Event::Close { code, .. }
             | Event::Turn { code, .. }
-            | Event::Complete { code, .. } => code,
+            | Event::Complete { code, .. }
+            | Event::CompleteMany { code, .. } => code,
             Event::Zeroed { .. } | Event::Skipped { .. } => NONE,
         }
     }

@@ -8,9 +8,10 @@
 
 mod request;
 
+use crate::list::names;
 use crate::places::{
-    kind, share, turn, u32_at, u64_at, Layout, Ring, DONE_STATUS, DONE_WORDS, PAGE_BYTES,
-    PAGE_SLOTS, TURN_WORDS,
+    kind, many, share, turn, u32_at, u64_at, Layout, Ring, DONE_STATUS, PAGE_BYTES, PAGE_SLOTS,
+    TURN_WORDS,
 };
 use crate::refusal::{BAD_REQUEST, ID_OUTSTANDING, NONE, RING_FULL, WRONG_LENGTH};
 use crate::{sheet, Event};
@@ -242,7 +243,24 @@ impl HalvesHistory {
             } => {
                 self.pass_on(self.page(lent), self.page(left))?;
                 if port as usize == self.port {
-                    self.completed(self.page(left), tag, answer)?;
+                    self.completed(self.page(left), tag.into(), answer[DONE_STATUS])?;
+                }
+                Ok(())
+            }
+            Event::CompleteMany {
+                lent,
+                left,
+                port,
+                entries,
+                answer,
+                ..
+            } => {
+                self.pass_on(self.page(lent), self.page(left))?;
+                if port as usize == self.port {
+                    let names = names(entries).unwrap_or_default();
+                    for ((tag, _), status) in names.into_iter().zip(&answer[many::STATUSES..]) {
+                        self.completed(self.page(left), tag, *status)?;
+                    }
                 }
                 Ok(())
             }
@@ -305,16 +323,11 @@ impl HalvesHistory {
         Ok(put)
     }
 
-    fn completed(
-        &mut self,
-        left: &[u8],
-        tag: u32,
-        answer: &[u64; DONE_WORDS],
-    ) -> Result<(), String> {
-        let Some(request) = self.started.remove(&u64::from(tag)) else {
+    fn completed(&mut self, left: &[u8], tag: u64, status: u64) -> Result<(), String> {
+        let Some(request) = self.started.remove(&tag) else {
             return Err("a request was completed that was not started".into());
         };
-        self.answer(left, &request, answer[DONE_STATUS])
+        self.answer(left, &request, status)
     }
 
     /// The response to a request: its id and operation, and the status that the call answered, which

@@ -11,6 +11,7 @@ mod books;
 mod counts;
 mod event;
 mod halves;
+mod list;
 mod places;
 mod refusal;
 mod sheet;
@@ -22,11 +23,12 @@ pub use halves::{HalvesEvent, HalvesHistory};
 
 use books::Books;
 use counts::Counts;
+use list::{check_told, names, Name};
 use places::{
-    kind, share, turn, u32_at, DONE_PORT, DONE_WORDS, GRANTS_BYTES, PORTS, REQ_EVENT, REQ_PROD,
+    kind, many, share, turn, u32_at, DONE_PORT, ENTRIES, GRANTS_BYTES, PORTS, REQ_EVENT, REQ_PROD,
     RINGS_BYTES, SHARE_BYTES, TURN_WORDS,
 };
-use refusal::{IN_FLIGHT, IS_CLOSED, NONE, NOT_BUSY, NOT_CLOSED, NO_PORT, WRONG_LENGTH};
+use refusal::{IN_FLIGHT, IS_CLOSED, NONE, NOT_BUSY, NOT_CLOSED, NO_PORT, TOO_MANY, WRONG_LENGTH};
 use wait::Wait;
 
 /// A port as the history shows it.
@@ -72,10 +74,21 @@ impl Port {
         self.answer(left);
     }
 
-    /// A response, as the share left has it.
-    fn answer(&mut self, left: &[u8]) {
+    /// A response, as the share left has it. Gives its status.
+    fn answer(&mut self, left: &[u8]) -> u16 {
         let status = self.books.answer(left);
         self.counts.answer(status);
+        status
+    }
+
+    /// Rule 12.14: the response is the newest such request's. Serials repeat only after 2^32 requests and a
+    /// busy tag is not named again, so an unfinished request of that tag and serial is the newest
+    /// one; any other would be answered twice, and was due to be refused with 6.
+    fn complete(&mut self, left: &[u8], (tag, _): Name) -> Result<u16, String> {
+        self.books.finish(tag as usize);
+        let status = self.answer(left);
+        self.books.check()?;
+        Ok(status)
     }
 }
 
@@ -113,6 +126,11 @@ impl History {
         self.ports[port].books.is_tag_busy(tag)
     }
 
+    /// Whether an unfinished request has this tag and this serial.
+    pub fn is_busy(&self, port: usize, tag: u64, serial: u64) -> bool {
+        self.ports[port].books.are_busy(&[(tag, serial)])
+    }
+
     /// The most turns in a row that a port with something to serve was passed over.
     pub fn longest_wait(&self) -> u32 {
         self.longest_wait
@@ -135,19 +153,33 @@ impl History {
                 left,
                 port,
                 tag,
+                serial,
                 answer,
                 ..
             } if code == NONE => {
-                same_length(lent, left)?;
-                self.check_behind_rings(lent, left)?;
-                self.completed(left, port, tag, answer)
+                let name = (tag.into(), serial.into());
+                let completed = self.completed(lent, left, port, answer[DONE_PORT], &[name]);
+                completed.map(drop)
+            }
+            Event::CompleteMany {
+                lent,
+                left,
+                port,
+                entries,
+                answer,
+                ..
+            } if code == NONE => {
+                let names = names(entries).unwrap_or_default();
+                let named = answer[many::PORT];
+                let statuses = self.completed(lent, left, port, named, &names)?;
+                check_told(&statuses, answer).map_err(|fault| format!("port {port}: {fault}"))
             }
             Event::Zeroed { port } => self.zeroed(port),
             Event::Skipped { port, requests } => self.skipped(port, requests),
             Event::Open { .. } | Event::Close { .. } => Ok(()),
-            Event::Turn { lent, left, .. } | Event::Complete { lent, left, .. } => {
-                unchanged(lent, left, "a refused call")
-            }
+            Event::Turn { lent, left, .. }
+            | Event::Complete { lent, left, .. }
+            | Event::CompleteMany { lent, left, .. } => unchanged(lent, left, "a refused call"),
         }
     }
 
@@ -169,16 +201,35 @@ impl History {
                 (RINGS_BYTES, GRANTS_BYTES) => NONE,
                 _ => WRONG_LENGTH,
             },
-            Event::Complete { lent, .. } if lent.len() != RINGS_BYTES => WRONG_LENGTH,
             Event::Complete {
-                port, tag, serial, ..
-            } => match self.ports.get(port as usize) {
-                None => NO_PORT,
-                Some(known) if known.state == State::Closed => IS_CLOSED,
-                Some(known) if !known.books.is_busy(tag, serial) => NOT_BUSY,
-                Some(_) => NONE,
-            },
+                lent,
+                port,
+                tag,
+                serial,
+                ..
+            } => self.completion_refusal(lent, port, Some(vec![(tag.into(), serial.into())])),
+            Event::CompleteMany {
+                lent,
+                port,
+                entries,
+                ..
+            } => self.completion_refusal(lent, port, names(entries)),
             Event::Zeroed { .. } | Event::Skipped { .. } => NONE,
+        }
+    }
+
+    /// The refusal of a completion, or of a list of them, by what it names.
+    fn completion_refusal(&self, lent: &[u8], port: u32, names: Option<Vec<Name>>) -> u32 {
+        let Some(names) = names else {
+            return WRONG_LENGTH;
+        };
+        match self.ports.get(port as usize) {
+            _ if lent.len() != RINGS_BYTES => WRONG_LENGTH,
+            None => NO_PORT,
+            Some(known) if known.state == State::Closed => IS_CLOSED,
+            Some(_) if names.len() > ENTRIES => TOO_MANY,
+            Some(known) if !known.books.are_busy(&names) => NOT_BUSY,
+            Some(_) => NONE,
         }
     }
 
@@ -329,27 +380,28 @@ impl History {
         Ok(())
     }
 
-    /// Rule 12.14: the response is the newest such request's. Serials repeat only after 2^32 requests and a
-    /// busy tag is not named again, so an unfinished request of that tag and serial is the newest
-    /// one; any other would be answered twice, and was due to be refused with 6.
+    /// Each name is a completion of its own, in the order of the list; none leaves the rings alone. The
+    /// answer names a port. Gives the statuses that the responses have.
     fn completed(
         &mut self,
+        lent: &[u8],
         left: &[u8],
         port: u32,
-        tag: u32,
-        answer: &[u64; DONE_WORDS],
-    ) -> Result<(), String> {
-        let named = answer[DONE_PORT];
+        named: u64,
+        names: &[Name],
+    ) -> Result<Vec<u16>, String> {
+        same_length(lent, left)?;
+        self.check_behind_rings(lent, left)?;
+        if names.is_empty() {
+            unchanged(lent, left, "an empty list")?;
+        }
         if named != u64::from(port) {
             return Err(format!("the completion of port {port} names {named}"));
         }
-        let known = &mut self.ports[port as usize];
-        known.books.finish(tag as usize);
-        known.answer(share(left, port as usize));
-        known
-            .books
-            .check()
-            .map_err(|fault| format!("port {port}: {fault}"))
+        let (known, left) = (&mut self.ports[port as usize], share(left, port as usize));
+        let statuses = names.iter().map(|&name| known.complete(left, name));
+        let statuses: Result<Vec<u16>, String> = statuses.collect();
+        statuses.map_err(|fault| format!("port {port}: {fault}"))
     }
 }
 

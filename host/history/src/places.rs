@@ -13,6 +13,10 @@ pub const PAGE_SLOTS: u32 = 32;
 /// Words of the answers.
 pub const TURN_WORDS: usize = 64;
 pub const DONE_WORDS: usize = 4;
+pub const MANY_WORDS: usize = 68;
+/// Entries of a list of completions, at most, and the words of one.
+pub const ENTRIES: usize = 64;
+pub const ENTRY_WORDS: usize = 3;
 
 /// Words of a turn's answer.
 pub mod turn {
@@ -40,6 +44,13 @@ pub type Pair = (u64, u8);
 /// The words of a completion's answer that name the port, and the status without its sign.
 pub const DONE_PORT: usize = 0;
 pub const DONE_STATUS: usize = 1;
+
+/// Words of the answer of a list of completions: the statuses are without their signs, one to an entry.
+pub mod many {
+    pub const PORT: usize = 0;
+    pub const COUNT: usize = 1;
+    pub const STATUSES: usize = 4;
+}
 
 /// A port's share of the rings.
 pub fn share(rings: &[u8], port: usize) -> &[u8] {

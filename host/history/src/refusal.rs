@@ -8,6 +8,7 @@ pub const NOT_CLOSED: u32 = 3;
 pub const IS_CLOSED: u32 = 4;
 pub const IN_FLIGHT: u32 = 5;
 pub const NOT_BUSY: u32 = 6;
+pub const TOO_MANY: u32 = 7;
 pub const SHEET_SHAPE: u32 = 11;
 pub const SHEET_NODES: u32 = 12;
 pub const SHEET_TEXT: u32 = 13;

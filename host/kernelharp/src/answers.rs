@@ -1,9 +1,9 @@
 //! What the calls answer, as types: turns with their plans, and completions.
 
-use crate::layout::EXTENTS;
+use crate::layout::{ENTRIES, EXTENTS};
 use crate::names::{Name, Port, Serial, Tag};
 use crate::terms::{Operation, Reason, Status};
-use crate::words::{done, extent, kind, turn, DoneWords, TurnWords};
+use crate::words::{done, extent, kind, many, turn, DoneWords, ManyWords, TurnWords};
 use std::fmt;
 
 /// One stretch of a plan: sectors of 512 bytes that lie together in a guest frame and on the disk.
@@ -189,6 +189,52 @@ impl fmt::Display for Done {
     }
 }
 
+/// What a list of completions did.
+#[must_use = "the guest may have to be notified"]
+#[derive(Clone, Debug, PartialEq, Eq)]
+pub struct DoneMany {
+    /// The port named.
+    pub port: Port,
+    /// Whether the guest is to be notified, once for all of them.
+    pub notify: bool,
+    statuses: [Status; ENTRIES],
+    count: usize,
+}
+
+impl DoneMany {
+    /// The statuses in the responses, in the order of the list.
+    pub fn statuses(&self) -> &[Status] {
+        &self.statuses[..self.count]
+    }
+
+    /// Reads `kh_complete_many`'s answer; nothing comes back for words that no list answers with.
+    pub fn from_words(words: &ManyWords) -> Option<DoneMany> {
+        let count = usize::try_from(words[many::COUNT]).ok()?;
+        let mut statuses = [Status::Okay; ENTRIES];
+        let magnitudes = &words[many::STATUSES..];
+        for (status, &word) in statuses.get_mut(..count)?.iter_mut().zip(magnitudes) {
+            *status = Status::from_magnitude(word)?;
+        }
+        Some(DoneMany {
+            port: port_of(words[many::PORT])?,
+            notify: flag_of(words[many::NOTIFY])?,
+            statuses,
+            count,
+        })
+    }
+}
+
+impl fmt::Display for DoneMany {
+    fn fmt(&self, f: &mut fmt::Formatter) -> fmt::Result {
+        let DoneMany { port, count, .. } = self;
+        write!(f, "completed {count} of {port}:")?;
+        for status in self.statuses() {
+            write!(f, " {}", *status as i16)?;
+        }
+        f.write_str(told(self.notify))
+    }
+}
+
 fn told(notify: bool) -> &'static str {
     if notify {
         ", notify"
@@ -212,7 +258,7 @@ fn flag_of(word: u64) -> Option<bool> {
 #[cfg(test)]
 mod tests {
     use super::*;
-    use crate::words::TURN_WORDS;
+    use crate::words::{MANY_WORDS, TURN_WORDS};
 
     /// Words of a turn: those named, all others zeros.
     fn words(named: &[(usize, u64)]) -> TurnWords {
@@ -265,6 +311,28 @@ mod tests {
         assert_eq!(done.as_deref(), Some(due));
     }
 
+    /// The words of a list on port 5 whose statuses have these magnitudes.
+    fn listed(magnitudes: &[u64]) -> ManyWords {
+        let mut words = [0; MANY_WORDS];
+        (words[many::PORT], words[many::COUNT]) = (5, magnitudes.len() as u64);
+        words[many::STATUSES..][..magnitudes.len()].copy_from_slice(magnitudes);
+        words
+    }
+
+    #[test]
+    fn a_list_prints_what_it_did() {
+        let mut words = listed(&[0, 2, 1]);
+        words[many::NOTIFY] = 1;
+        let done = DoneMany::from_words(&words).expect("a list's words");
+        assert_eq!(done.to_string(), "completed 3 of port 5: 0 -2 -1, notify");
+        let due = [Status::Okay, Status::NotSupported, Status::Error];
+        assert_eq!(done.statuses(), due);
+        let done = DoneMany::from_words(&listed(&[])).expect("a list's words");
+        assert_eq!(done.to_string(), "completed 0 of port 5:");
+        let done = DoneMany::from_words(&listed(&[1; ENTRIES])).expect("a list's words");
+        assert_eq!(done.statuses(), [Status::Error; ENTRIES]);
+    }
+
     #[test]
     fn words_that_no_call_answers_with() {
         let started = words(&[
@@ -287,6 +355,17 @@ mod tests {
         }
         for words in [[8, 0, 0, 0], [0, 3, 0, 0], [0, 0, 2, 0]] {
             assert_eq!(Done::from_words(&words), None);
+        }
+        for (at, word) in [
+            (many::PORT, 8),
+            (many::COUNT, ENTRIES as u64 + 1),
+            (many::COUNT, u64::MAX),
+            (many::NOTIFY, 2),
+            (many::STATUSES + 1, 3),
+        ] {
+            let mut words = listed(&[0, 1]);
+            words[at] = word;
+            assert_eq!(DoneMany::from_words(&words), None, "word {at}: {word}");
         }
     }
 }

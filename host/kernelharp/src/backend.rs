@@ -1,13 +1,13 @@
 //! The wrapper that most hosts want: a backend with its private buffers, and typed answers.
 
-use crate::answers::{Done, Turn};
-use crate::ffi::{ArchiveMismatch, Completion, Memory, Meter};
+use crate::answers::{Done, DoneMany, Turn};
+use crate::ffi::{ArchiveMismatch, Completion, Entry, Memory, Meter};
 use crate::layout::{
     ring, ring_mut, GRANTS_BYTES, PAGE_BYTES, PORTS, PORT_GRANTS, RINGS_BYTES, RING_BYTES,
 };
 use crate::names::{Name, Port};
 use crate::terms::Refusal;
-use crate::words::{turn, DONE_WORDS, TURN_WORDS};
+use crate::words::{turn, DONE_WORDS, MANY_WORDS, TURN_WORDS};
 use std::mem;
 
 /// A backend that owns what its calls are lent: memory, rings, grants and the ports' meters.
@@ -146,6 +146,42 @@ impl Backend {
         outcome(code)?;
         Ok(Done::from_words(&words).expect("an answer as the C interface has it"))
     }
+
+    /// Answers many started requests of a port at once, as disk interrupts bring them: the responses
+    /// stand in the order of the list, and the guest is notified once for all of them or not at all. A
+    /// list has up to 64 entries, and may be empty, which does nothing.
+    ///
+    /// All are answered or none: a list is refused whole where [`Backend::complete`] would refuse one of its
+    /// entries, or where a tag is in it twice ([`Refusal::NotBusy`]).
+    ///
+    /// ```
+    /// use kernelharp::{Backend, Entry, Port, Status, Turn};
+    ///
+    /// let mut backend = Backend::new()?;
+    /// let port = Port::try_from(0)?;
+    /// backend.open(port, b"\x04\x01\0\x01\0\x03\0\x01\0\x06\0\x03\0\x07\0\x04\0w15122008")?;
+    /// let ring = backend.ring_mut(port);
+    /// (ring[64], ring[64 + 112]) = (3, 3); // two flushes
+    /// ring[0] = 2; // req_prod
+    /// let mut ended = Vec::new();
+    /// while let Turn::Started(plan) = backend.turn() {
+    ///     ended.push(Entry::of(plan.name, plan.expected_result()));
+    /// }
+    /// let done = backend.complete_many(port, &ended)?;
+    /// assert_eq!(done.statuses(), [Status::Okay; 2]);
+    /// # Ok::<(), Box<dyn std::error::Error>>(())
+    /// ```
+    pub fn complete_many(&mut self, port: Port, entries: &[Entry]) -> Result<DoneMany, Refusal> {
+        let (mut words, rings) = ([0; MANY_WORDS], &mut self.rings[..]);
+        let (number, entries) = (port.number(), Entry::words(entries));
+        let code = self
+            .memory
+            .complete_many(rings, number, entries, &mut words);
+        // A refusal raises nothing.
+        self.meters[port.index()].many(code, &words);
+        outcome(code)?;
+        Ok(DoneMany::from_words(&words).expect("an answer as the C interface has it"))
+    }
 }
 
 /// What a call returned, as a refusal or none.
@@ -166,7 +202,7 @@ pub(crate) fn zeros<const BYTES: usize>() -> Box<[u8; BYTES]> {
 mod tests {
     use super::*;
     use crate::answers::Plan;
-    use crate::layout::{write_u32, Abi, Pages, REQ_PROD};
+    use crate::layout::{write_u32, Abi, Pages, REQ_PROD, RSP_EVENT};
     use crate::names::Serial;
     use crate::sheet::Sheet;
     use crate::terms::Status;
@@ -270,6 +306,75 @@ mod tests {
         };
         assert_eq!(backend.complete(elsewhere, 0), Err(Refusal::IsClosed));
         assert_eq!(backend.meters, before);
+    }
+
+    /// The entries of requests with their results.
+    fn entries(plans: &[Plan], results: &[i32]) -> Vec<Entry> {
+        let ended = plans.iter().zip(results);
+        ended
+            .map(|(plan, &result)| Entry::of(plan.name, result))
+            .collect()
+    }
+
+    /// Each entry counts, and of a refused list none does.
+    #[test]
+    fn a_list_raises_the_meter_by_its_entries() {
+        let (mut backend, served) = (Backend::new().unwrap(), port(6));
+        open(&mut backend, served);
+        let plans: Vec<Plan> = (0..5)
+            .map(|index| started(&mut backend, served, index))
+            .collect();
+        let list = entries(&plans, &[0, IO_ERROR, NOT_SUPPORTED, IO_ERROR]);
+        let before = backend.clone();
+        for (port, list, refusal) in [
+            (port(5), vec![], Refusal::IsClosed),
+            (port(5), list.repeat(17), Refusal::IsClosed),
+            (served, list.repeat(17), Refusal::TooMany),
+            (served, list.repeat(2), Refusal::NotBusy),
+        ] {
+            assert_eq!(backend.complete_many(port, &list), Err(refusal));
+            assert_eq!(backend, before);
+        }
+        let done = backend.complete_many(served, &[]).unwrap();
+        assert_eq!((done.statuses(), done.notify), (&[][..], false));
+        assert_eq!(backend, before);
+        let done = backend.complete_many(served, &list).unwrap();
+        let statuses = [
+            Status::Okay,
+            Status::Error,
+            Status::NotSupported,
+            Status::Error,
+        ];
+        assert_eq!((done.port, done.statuses()), (served, &statuses[..]));
+        assert_eq!(backend.meter(served), Meter::of([5, 1, 2, 1]));
+        let again = backend.complete_many(served, &list[..1]);
+        assert_eq!(again, Err(Refusal::NotBusy));
+        assert_eq!(backend.meter(served), Meter::of([5, 1, 2, 1]));
+    }
+
+    /// The list of one is the completion, and a list its completions one by one, but for the notices.
+    #[test]
+    fn a_list_leaves_what_its_completions_leave() {
+        let (mut backend, served) = (Backend::new().unwrap(), port(1));
+        open(&mut backend, served);
+        let plans: Vec<Plan> = (0..3)
+            .map(|index| started(&mut backend, served, index))
+            .collect();
+        write_u32(backend.ring_mut(served), RSP_EVENT, 2);
+        let (mut one, mut other) = (backend.clone(), backend.clone());
+        let single = one.complete(plans[1].name, 0).unwrap();
+        let listed = other.complete_many(served, &entries(&plans[1..2], &[0]));
+        let listed = listed.unwrap();
+        assert_eq!(listed.statuses(), [single.status]);
+        assert_eq!((listed.port, listed.notify), (single.port, single.notify));
+        assert_eq!(one, other);
+        let (mut one_by_one, mut notices) = (backend.clone(), 0);
+        for plan in &plans {
+            notices += u32::from(one_by_one.complete(plan.name, 0).unwrap().notify);
+        }
+        let done = backend.complete_many(served, &entries(&plans, &[0; 3]));
+        assert_eq!((done.unwrap().notify, notices), (true, 1));
+        assert_eq!(backend, one_by_one);
     }
 
     #[test]

@@ -2,15 +2,16 @@
 //! that a guest writes at the same time.
 
 use crate::layout::PAGE_BYTES;
-use crate::names::Name;
-use crate::words::{CollectWords, DoneWords, PutWords, RequestWords, TurnWords};
+use crate::names::{Name, Serial, Tag};
+use crate::words::{entry, CollectWords, DoneWords, ManyWords, PutWords, RequestWords, TurnWords};
 use std::fmt;
 use std::ptr::NonNull;
+use std::slice;
 use std::sync::atomic::AtomicU32;
 
 /// The version that this package was built for, as `kh_version` gives it: major x 10,000 + minor x
 /// 100 + patch.
-pub const VERSION: u32 = 800;
+pub const VERSION: u32 = 900;
 /// How many words of backend memory this package was built for (`KH_MEMORY_WORDS`).
 pub const MEMORY_WORDS: usize = 2153;
 /// How many words of guest memory this package was built for (`KH_GUEST_WORDS`).
@@ -39,6 +40,15 @@ extern "C" {
         result: i32,
         answer: *mut u64,
     ) -> u32;
+    fn kh_complete_many(
+        memory: *mut u64,
+        rings: *mut u8,
+        rings_bytes: usize,
+        port: u32,
+        entries: *const u64,
+        entry_words: usize,
+        answer: *mut u64,
+    ) -> u32;
     fn kh_guest_words() -> u32;
     fn kh_guest_put(
         guest: *mut u64,
@@ -51,6 +61,7 @@ extern "C" {
         -> u32;
     fn kh_meter_turn(meter: *mut Meter, returned: u32, answer: *const u64);
     fn kh_meter_completion(meter: *mut Meter, returned: u32, answer: *const u64);
+    fn kh_meter_many(meter: *mut Meter, returned: u32, answer: *const u64);
 }
 
 /// The archive that was linked is another than this package was built for.
@@ -129,6 +140,46 @@ impl Completion {
             serial: name.serial.0,
             result,
         }
+    }
+}
+
+/// One entry of a list of completions: a started request of the list's port, by its tag and serial, and
+/// the host's result. A list of them lies in memory as `kh_complete_many` takes it.
+#[repr(transparent)]
+#[derive(Clone, Copy, PartialEq, Eq, Hash)]
+pub struct Entry([u64; entry::WORDS]);
+
+impl Entry {
+    /// An entry by its numbers.
+    pub fn new(tag: Tag, serial: Serial, result: i32) -> Entry {
+        let mut words = [0; entry::WORDS];
+        words[entry::TAG] = tag.0.into();
+        words[entry::SERIAL] = serial.0.into();
+        words[entry::RESULT] = i64::from(result) as u64;
+        Entry(words)
+    }
+
+    /// The entry of a request by its name. Whose port it is, the list says.
+    pub fn of(name: Name, result: i32) -> Entry {
+        Entry::new(name.tag, name.serial, result)
+    }
+
+    /// The words of a list.
+    pub fn words(entries: &[Entry]) -> &[u64] {
+        let (first, words) = (entries.as_ptr().cast(), entry::WORDS * entries.len());
+        // SAFETY: an entry is laid out as its words are, so a slice of entries is one of as many words
+        // to each, borrowed as long.
+        unsafe { slice::from_raw_parts(first, words) }
+    }
+}
+
+impl fmt::Debug for Entry {
+    fn fmt(&self, f: &mut fmt::Formatter) -> fmt::Result {
+        let mut entry = f.debug_struct("Entry");
+        entry.field("tag", &self.0[entry::TAG]);
+        entry.field("serial", &self.0[entry::SERIAL]);
+        let result = self.0[entry::RESULT] as i64;
+        entry.field("result", &result).finish()
     }
 }
 
@@ -213,6 +264,32 @@ impl Memory {
             )
         }
     }
+
+    /// `kh_complete_many`: entries are words, three to each, and may be any ([`Entry::words`] has those
+    /// of a list).
+    pub fn complete_many(
+        &mut self,
+        rings: &mut [u8],
+        port: u32,
+        entries: &[u64],
+        answer: &mut ManyWords,
+    ) -> u32 {
+        let (memory, answer) = (self.words.as_mut_ptr(), answer.as_mut_ptr());
+        let (rings_bytes, rings) = (rings.len(), rings.as_mut_ptr());
+        let (entry_words, entries) = (entries.len(), entries.as_ptr());
+        // SAFETY: as in `turn`.
+        unsafe {
+            kh_complete_many(
+                memory,
+                rings,
+                rings_bytes,
+                port,
+                entries,
+                entry_words,
+                answer,
+            )
+        }
+    }
 }
 
 /// Guest memory, with the archive's calls of the guest's half over it: they lend a page of any length,
@@ -289,6 +366,13 @@ impl Meter {
     pub fn completion(&mut self, returned: u32, answer: &DoneWords) {
         // SAFETY: as in `turn`.
         unsafe { kh_meter_completion(self, returned, answer.as_ptr()) }
+    }
+
+    /// `kh_meter_many`: raised by what a list of completions returned and the words that it left, whatever
+    /// they are.
+    pub fn many(&mut self, returned: u32, answer: &ManyWords) {
+        // SAFETY: as in `turn`.
+        unsafe { kh_meter_many(self, returned, answer.as_ptr()) }
     }
 
     /// The meter of four numbers, in the order of the fields.
@@ -379,7 +463,8 @@ impl Mapping {
 #[cfg(test)]
 mod tests {
     use super::*;
-    use crate::words::{kind, turn, TURN_WORDS};
+    use crate::layout::ENTRIES;
+    use crate::words::{kind, many, turn, MANY_WORDS, TURN_WORDS};
 
     #[test]
     fn the_version_is_that_of_the_package() {
@@ -410,8 +495,25 @@ mod tests {
             (answered[turn::KIND], answered[turn::STATUS]) = (kind::ANSWERED, status);
             meter.turn(0, &answered);
             meter.completion(0, &[0, status, 0, 0]);
+            let mut listed = [status; MANY_WORDS];
+            listed[many::COUNT] = ENTRIES as u64;
+            meter.many(0, &listed);
         }
         assert_eq!(meter, full);
+    }
+
+    /// By the numbers of the rules: three words to an entry, the result in two's complement.
+    #[test]
+    fn the_words_of_a_list() {
+        let entries = [
+            Entry::new(Tag(63), Serial(u32::MAX), -95),
+            Entry::new(Tag(0), Serial(7), i32::MAX),
+        ];
+        let due = [63, 0xFFFF_FFFF, u64::MAX - 94, 0, 7, 0x7FFF_FFFF];
+        assert_eq!(Entry::words(&entries), due);
+        assert_eq!(Entry::words(&[]), [0; 0]);
+        let printed = "Entry { tag: 63, serial: 4294967295, result: -95 }";
+        assert_eq!(format!("{:?}", entries[0]), printed);
     }
 
     #[test]

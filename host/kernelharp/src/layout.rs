@@ -46,6 +46,8 @@ pub const RESPONSE32_BYTES: usize = 12;
 pub const SEGMENTS: usize = 11;
 /// The most extents of a plan: one to a segment.
 pub const EXTENTS: usize = SEGMENTS;
+/// Entries that a list of completions can have, at most, whatever the ring.
+pub const ENTRIES: usize = 64;
 
 /// The node protocol.
 pub(crate) const PROTOCOL: u8 = 8;

@@ -1,8 +1,8 @@
 //! Kernelharp for hosts in Rust: the request core of a Xen block backend, whose calls are proved; and
 //! for guests the other half of a ring, likewise.
 //!
-//! - [`Backend`]: the four calls over private buffers that it owns, with typed answers ([`Turn`],
-//!   [`Plan`], [`Done`]) and refusals as errors ([`Refusal`]).
+//! - [`Backend`]: the calls over private buffers that it owns, with typed answers ([`Turn`],
+//!   [`Plan`], [`Done`], and [`DoneMany`] of a list of [`Entry`]s) and refusals as errors ([`Refusal`]).
 //!   Each port has its [`Meter`], which the calls raise ([`Backend::meter`], [`Backend::take_meter`]).
 //! - [`Guest`]: the guest's half, for guest images: it puts a [`Request`] and collects a [`Response`].
 //! - [`live`]: backend and guest over rings that the other side may write at the same time.
@@ -37,10 +37,11 @@ mod sheet;
 mod terms;
 pub mod words;
 
-pub use answers::{Done, Extent, Plan, Turn};
+pub use answers::{Done, DoneMany, Extent, Plan, Turn};
 pub use backend::Backend;
 pub use ffi::{
-    ArchiveMismatch, Completion, GuestMemory, Memory, Meter, GUEST_WORDS, MEMORY_WORDS, VERSION,
+    ArchiveMismatch, Completion, Entry, GuestMemory, Memory, Meter, GUEST_WORDS, MEMORY_WORDS,
+    VERSION,
 };
 pub use guest::{Guest, Request, Response, Segment};
 pub use layout::{Abi, Pages};

@@ -13,8 +13,9 @@
 //! | when | what is done |
 //! |---|---|
 //! | before a turn | req_prod, a read fence, the new requests, rsp_event of each open port in |
-//! | before a completion | rsp_event in |
+//! | before a completion, or a list of them | rsp_event in |
 //! | after a response | its 16 or 12 bytes out, a write fence, rsp_prod out, a full fence, rsp_event once more |
+//! | after a list | the same, once for all of its responses |
 //! | after an idle turn | req_event out, a full fence, one more turn |
 //!
 //! Where a request lies and how long a response is goes by the port's layout ([`crate::Abi`]) and its

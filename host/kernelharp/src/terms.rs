@@ -51,7 +51,8 @@ numbered! {
     NotClosed = 3, "port not closed";
     IsClosed = 4, "port closed";
     InFlight = 5, "requests in flight";
-    NotBusy = 6, "tag beyond the ring's slots, not busy, or another serial";
+    NotBusy = 6, "tag beyond the ring's slots, not busy, another serial, or named twice";
+    TooMany = 7, "more than 64 completions";
     SheetShape = 11, "sheet empty, more than 9 entries, a reserved byte not 0, wrong total length";
     SheetNodes = 12, "node 0, above 9, or not rising";
     SheetText = 13, "a text that node 1 to 5 or 8 does not know, or no number in 6, 7 or 9";
@@ -196,7 +197,7 @@ mod tests {
             .filter_map(Refusal::from_number)
             .map(|refusal| refusal as u32)
             .collect();
-        let of_a_backend = [1, 2, 3, 4, 5, 6, 11, 12, 13, 14, 15];
+        let of_a_backend = [1, 2, 3, 4, 5, 6, 7, 11, 12, 13, 14, 15];
         let of_a_guest = [31, 32, 33, 34, 35];
         assert_eq!(refusals, [&of_a_backend[..], &of_a_guest].concat());
         let reasons: Vec<u32> = (0..100)
@@ -219,7 +220,8 @@ mod tests {
     #[test]
     fn a_refusal_prints_number_and_words() {
         let refusal: Box<dyn std::error::Error> = Box::new(Refusal::NotBusy);
-        let due = "refusal 6: tag beyond the ring's slots, not busy, or another serial";
+        let due =
+            "refusal 6: tag beyond the ring's slots, not busy, another serial, or named twice";
         assert_eq!(refusal.to_string(), due);
         let reason = "reason 27: a frame without the grant that it takes";
         assert_eq!(Reason::NotGranted.to_string(), reason);

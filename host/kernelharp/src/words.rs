@@ -1,9 +1,13 @@
-//! The words of the calls' answers, by name.
+//! The words of the calls' answers, and of what is handed in as words, by name.
+
+use crate::layout::ENTRIES;
 
 /// How many words a turn answers with.
 pub const TURN_WORDS: usize = 64;
 /// How many words a completion answers with.
 pub const DONE_WORDS: usize = 4;
+/// How many words a list of completions answers with.
+pub const MANY_WORDS: usize = many::STATUSES + ENTRIES;
 /// How many words a request has that a guest puts.
 pub const REQUEST_WORDS: usize = 41;
 /// How many words putting answers with.
@@ -15,6 +19,8 @@ pub const COLLECT_WORDS: usize = 4;
 pub type TurnWords = [u64; TURN_WORDS];
 /// A completion's answer.
 pub type DoneWords = [u64; DONE_WORDS];
+/// The answer of a list of completions.
+pub type ManyWords = [u64; MANY_WORDS];
 /// A request that a guest puts.
 pub type RequestWords = [u64; REQUEST_WORDS];
 /// The answer of putting.
@@ -86,6 +92,30 @@ pub mod done {
     pub const STATUS: usize = 1;
     /// Whether the guest is to be notified, 0 or 1.
     pub const NOTIFY: usize = 2;
+}
+
+/// Places in an entry of a list of completions.
+pub mod entry {
+    /// The tag named.
+    pub const TAG: usize = 0;
+    /// The serial named.
+    pub const SERIAL: usize = 1;
+    /// The host's result, in two's complement.
+    pub const RESULT: usize = 2;
+    /// How many words an entry has.
+    pub const WORDS: usize = 3;
+}
+
+/// Places in the answer of a list of completions. The word before the statuses and those behind them are 0.
+pub mod many {
+    /// The port named.
+    pub const PORT: usize = 0;
+    /// How many entries were done.
+    pub const COUNT: usize = 1;
+    /// Whether the guest is to be notified, 0 or 1.
+    pub const NOTIFY: usize = 2;
+    /// The first entry's status without its sign; the others follow it.
+    pub const STATUSES: usize = 4;
 }
 
 /// Places in a request that a guest puts. Only what the operation uses is looked at.

@@ -71,3 +71,14 @@ pub struct Done {
     /// Whether the guest wants to be told.
     pub notify: bool,
 }
+
+/// What a list of completions did (rule 6.22).
+#[derive(Clone, Debug, PartialEq, Eq)]
+pub struct DoneMany {
+    /// The port named.
+    pub port: u32,
+    /// The statuses in the responses, in the order of the list.
+    pub statuses: Vec<Status>,
+    /// Whether the guest wants to be told.
+    pub notify: bool,
+}

@@ -1,14 +1,15 @@
-//! The backend: eight ports, and the four calls.
+//! The backend: eight ports, and the calls.
 
-use crate::answers::{Done, Turned};
+use crate::answers::{Done, DoneMany, Turned};
+use crate::entry::Entry;
 use crate::layout::{
-    check_length, share, share_mut, write_u32, GRANTS_BYTES, PORTS, PORT_GRANTS, REQ_EVENT,
-    RINGS_BYTES,
+    check_length, share, share_mut, write_u32, ENTRIES, GRANTS_BYTES, PORTS, PORT_GRANTS,
+    REQ_EVENT, RINGS_BYTES,
 };
 use crate::ring::Backlog;
 use crate::session::Session;
 use crate::sheet::read_sheet;
-use crate::terms::Refusal;
+use crate::terms::{Refusal, Status};
 
 /// What a completion names, and the host's result (rule 6.8).
 #[derive(Clone, Copy, Debug, PartialEq, Eq)]
@@ -89,22 +90,55 @@ impl Backend {
         Ok(session.serve(port as u32, share_mut(rings, port), port_grants))
     }
 
-    /// Completes a started request: refusals 1, 2, 4, 6.
+    /// Completes a started request: the list of one (rule 6.23).
     pub fn complete(&mut self, rings: &mut [u8], named: Completion) -> Result<Done, Refusal> {
-        check_length(rings, RINGS_BYTES)?;
-        let session = match self.port_mut(named.port)? {
-            Port::Closed => return Err(Refusal::IsClosed),
-            Port::Open(session) | Port::Broken(session) => session,
+        let entry = Entry {
+            tag: named.tag.into(),
+            serial: named.serial.into(),
+            result: named.result.into(),
         };
-        let started = session.release(named.tag, named.serial)?;
-        let status = started.status(named.result);
-        let ring = share_mut(rings, named.port as usize);
-        let notify = session.respond(ring, started.id, started.operation as u8, status);
+        let mut status = Status::Okay;
+        let notify = self.complete_list(rings, named.port, &[entry], |its| status = its)?;
         Ok(Done {
             port: named.port,
             status,
             notify,
         })
+    }
+
+    /// Completes a list of started requests of a port, three words to each.
+    pub fn complete_many(
+        &mut self,
+        rings: &mut [u8],
+        port: u32,
+        words: &[u64],
+    ) -> Result<DoneMany, Refusal> {
+        let (entries, mut statuses) = (Entry::read_all(words)?, Vec::new());
+        let notify = self.complete_list(rings, port, &entries, |its| statuses.push(its))?;
+        Ok(DoneMany {
+            port,
+            statuses,
+            notify,
+        })
+    }
+
+    /// Refusals 1, 2, 4, 7, 6; or each entry's status in turn, and whether to notify.
+    fn complete_list(
+        &mut self,
+        rings: &mut [u8],
+        port: u32,
+        entries: &[Entry],
+        told: impl FnMut(Status),
+    ) -> Result<bool, Refusal> {
+        check_length(rings, RINGS_BYTES)?;
+        let session = match self.port_mut(port)? {
+            Port::Closed => return Err(Refusal::IsClosed),
+            Port::Open(session) | Port::Broken(session) => session,
+        };
+        if entries.len() > ENTRIES {
+            return Err(Refusal::TooMany);
+        }
+        session.complete(share_mut(rings, port as usize), entries, told)
     }
 
     /// No call: a port just opened as it is after so many requests that were taken and answered. To come

@@ -24,6 +24,8 @@ pub const ONE_PAGE_SLOTS: u32 = 32;
 pub const TWO_PAGE_SLOTS: u32 = 64;
 /// Rule 2.16.
 pub const EXTENTS: usize = 11;
+/// Rule 6.16: the entries that a list of completions can have.
+pub const ENTRIES: usize = 64;
 
 /// What the two layouts of a port's records differ in: nothing but these numbers.
 #[derive(Clone, Copy, Debug, PartialEq, Eq)]
@@ -73,7 +75,7 @@ pub fn share_mut(rings: &mut [u8], port: usize) -> &mut [u8] {
     &mut rings[SHARE_BYTES * port..SHARE_BYTES * (port + 1)]
 }
 
-/// Refusal 1.
+/// Refusal 1, of rings and grants.
 pub fn check_length(buffer: &[u8], due: usize) -> Result<(), Refusal> {
     if buffer.len() == due {
         Ok(())

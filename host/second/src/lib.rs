@@ -1,13 +1,14 @@
 //! The second program: the rules of docs/RULES.md in ordinary Rust, written from them alone.
 //!
 //! It is there to be compared with the archive. So it shares no code with the wrapper, and says what
-//! the rules say in the plainest way: [`Backend`] has eight ports and the four calls, whose answers
-//! are [`Turned`] and [`Done`]; a [`Meter`] counts them; a [`Guest`] is the other side of a ring. In the
+//! the rules say in the plainest way: [`Backend`] has eight ports and the calls, whose answers
+//! are [`Turned`], [`Done`] and [`DoneMany`]; a [`Meter`] counts them; a [`Guest`] is the other side of a ring. In the
 //! comments C and R are req_cons and rsp_prod_pvt (rule 4.2), and sections are those of docs/RULES.md.
 
 mod answers;
 mod backend;
 mod checks;
+mod entry;
 mod guest;
 mod layout;
 mod meter;
@@ -17,7 +18,7 @@ mod session;
 mod sheet;
 mod terms;
 
-pub use answers::{Done, Extent, Plan, Turned};
+pub use answers::{Done, DoneMany, Extent, Plan, Turned};
 pub use backend::{Backend, Completion};
 pub use guest::{Collected, Guest, RequestWords};
 pub use layout::Layout;

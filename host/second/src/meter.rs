@@ -1,6 +1,7 @@
 //! A port's counters (section 15): what an answer raises in the host's record.
 
-use crate::answers::{Done, Turned};
+use crate::answers::{Done, DoneMany, Turned};
+use crate::layout::ENTRIES;
 use crate::terms::{Refusal, Status};
 
 /// Rule 15.1: a record, which is the host's. No backend knows of it.
@@ -36,6 +37,15 @@ impl Meter {
         }
     }
 
+    /// Rule 15.4, of each completion of a list.
+    pub fn many(&mut self, answer: &Result<DoneMany, Refusal>) {
+        if let Ok(done) = answer {
+            for status in &done.statuses {
+                self.answer(*status);
+            }
+        }
+    }
+
     /// Rules 15.10 and 15.11, of a turn: what it returned, and words of any kind.
     pub fn turn_words(&mut self, returned: u32, words: &[u64; 64]) {
         match (returned, words[0]) {
@@ -52,6 +62,16 @@ impl Meter {
     pub fn completion_words(&mut self, returned: u32, words: &[u64; 4]) {
         if returned == 0 {
             self.answer_word(words[1]);
+        }
+    }
+
+    /// Rule 15.12: of the statuses there is room for, as many as the answer says.
+    pub fn many_words(&mut self, returned: u32, words: &[u64; 4 + ENTRIES]) {
+        if returned == 0 {
+            let said = usize::try_from(words[1]).unwrap_or(usize::MAX);
+            for word in words[4..].iter().take(said) {
+                self.answer_word(*word);
+            }
         }
     }
 

@@ -2,6 +2,7 @@
 
 use crate::answers::{Plan, Turned};
 use crate::checks::{judge, Work};
+use crate::entry::Entry;
 use crate::layout::{read_u32, write_u32, REQ_PROD, RSP_EVENT, RSP_PROD};
 use crate::request::Request;
 use crate::ring::{backlog, response_bytes, Backlog};
@@ -10,17 +11,17 @@ use crate::terms::{Operation, Refusal, Status};
 
 /// What a busy tag keeps (rule 5.20).
 #[derive(Clone, Debug, PartialEq, Eq)]
-pub struct Started {
-    pub id: u64,
-    pub operation: Operation,
+struct Started {
+    id: u64,
+    operation: Operation,
     serial: u32,
     expected: i32,
 }
 
 impl Started {
     /// Rule 6.10.
-    pub fn status(&self, result: i32) -> Status {
-        if result == self.expected {
+    fn status(&self, result: i64) -> Status {
+        if result == i64::from(self.expected) {
             Status::Okay
         } else if result == -95 {
             Status::NotSupported
@@ -87,13 +88,13 @@ impl Session {
         match judge(&request, &self.disk, grants) {
             Ok(work) => Turned::Started(self.start(port, serial, request.id, work)),
             Err(reason) => {
-                let status = reason.status();
-                let notify = self.respond(ring, request.id, request.operation, status);
+                let (status, old) = (reason.status(), self.answered);
+                self.respond(ring, request.id, request.operation, status);
                 Turned::Answered {
                     port,
                     reason,
                     status,
-                    notify,
+                    notify: self.publish(ring, old),
                 }
             }
         }
@@ -124,20 +125,61 @@ impl Session {
         }
     }
 
-    /// Rules 6.1 to 6.5: the response in its slot, rsp_prod, and whether to notify.
-    pub fn respond(&mut self, ring: &mut [u8], id: u64, operation: u8, status: Status) -> bool {
+    /// Rules 6.1 to 6.3: the response in its slot. It is not yet published.
+    fn respond(&mut self, ring: &mut [u8], id: u64, operation: u8, status: Status) {
         let response = &response_bytes(id, operation, status)[..self.disk.layout.response_bytes];
         ring[self.slot_at(self.answered)..][..response.len()].copy_from_slice(response);
         self.answered = self.answered.wrapping_add(1);
-        write_u32(ring, RSP_PROD, self.answered);
-        read_u32(ring, RSP_EVENT) == self.answered
     }
 
-    /// Refusal 6, or the tag's request, whose tag is free from now on.
-    pub fn release(&mut self, tag: u32, serial: u32) -> Result<Started, Refusal> {
-        self.tags
-            .get_mut(tag as usize)
-            .and_then(|place| place.take_if(|started| started.serial == serial))
-            .ok_or(Refusal::NotBusy)
+    /// Rules 6.4, 6.19 and 6.20: rsp_prod, for all responses since R was `old`, and whether to notify.
+    fn publish(&self, ring: &mut [u8], old: u32) -> bool {
+        let new = self.answered;
+        write_u32(ring, RSP_PROD, new);
+        let behind = new.wrapping_sub(read_u32(ring, RSP_EVENT));
+        behind < new.wrapping_sub(old)
+    }
+
+    /// Rules 6.16 to 6.21: every entry is done and its status told, or with refusal 6 none. Gives whether
+    /// to notify.
+    pub fn complete(
+        &mut self,
+        ring: &mut [u8],
+        entries: &[Entry],
+        mut told: impl FnMut(Status),
+    ) -> Result<bool, Refusal> {
+        let sound = (0..entries.len()).all(|at| {
+            let (entry, before) = (&entries[at], &entries[..at]);
+            self.names_request(entry) && before.iter().all(|other| other.tag != entry.tag)
+        });
+        if !sound {
+            return Err(Refusal::NotBusy);
+        }
+        if entries.is_empty() {
+            return Ok(false);
+        }
+        let old = self.answered;
+        for entry in entries {
+            told(self.end(ring, entry));
+        }
+        Ok(self.publish(ring, old))
+    }
+
+    /// Whether an entry's tag is busy with its serial.
+    fn names_request(&self, entry: &Entry) -> bool {
+        let tag = usize::try_from(entry.tag).ok();
+        match tag.and_then(|tag| self.tags.get(tag)) {
+            Some(Some(started)) => u64::from(started.serial) == entry.serial,
+            _ => false,
+        }
+    }
+
+    /// Rules 6.10 to 6.12: the response to the request that an entry names, whose tag is free from now on.
+    fn end(&mut self, ring: &mut [u8], entry: &Entry) -> Status {
+        let place = &mut self.tags[entry.tag as usize];
+        let started = place.take().expect("every entry was looked at");
+        let status = started.status(entry.result);
+        self.respond(ring, started.id, started.operation as u8, status);
+        status
     }
 }

@@ -15,6 +15,8 @@ pub enum Refusal {
     InFlight = 5,
     /// Rule 7.6.
     NotBusy = 6,
+    /// Rule 7.7.
+    TooMany = 7,
     /// Rule 7.11.
     SheetShape = 11,
     /// Rule 7.12.

@@ -2,6 +2,7 @@
 
 use super::boundaries::boundary_classes;
 use super::discards::{discard_classes, DISCARD_REASONS};
+use super::lists::{list_classes, list_ring_classes};
 use super::meters::{meter_classes, port_meter_classes};
 use super::rings::ring_classes;
 use super::sheets::{
@@ -50,13 +51,14 @@ pub fn expected_classes() -> Vec<String> {
     classes.push(opened_with(None));
     classes.extend(Pages::ALL.map(|pages| opened_with(Some(pages.order()))));
     classes.extend(meter_classes());
+    classes.extend(list_classes());
     for abi in Abi::ALL {
         classes.push(opened_by(Some(abi.protocol())));
         let port_classes = port_classes();
         classes.extend(port_classes.iter().map(|class| class_of(abi, class)));
     }
     for ring in Ring::ALL {
-        let ring_classes = ring_classes(ring);
+        let ring_classes = [ring_classes(ring), list_ring_classes(ring)].concat();
         classes.extend(ring_classes.iter().map(|class| class_of(ring, class)));
     }
     classes
@@ -68,6 +70,7 @@ fn port_classes() -> Vec<String> {
     for (operation, reasons) in REASONS {
         classes.push(format!("started, operation {operation}"));
         classes.push(format!("completed, operation {operation}"));
+        classes.push(format!("listed, operation {operation}"));
         for reason in reasons {
             classes.push(format!("answered {reason}, operation {operation}"));
         }

@@ -35,12 +35,7 @@ impl Census {
             tag: Some(named.0),
             ..standing
         });
-        let books = &mut self.books[port];
-        let stale = books.completed_before.contains(&named);
-        if books.completed.len() > 1000 {
-            books.completed.clear();
-        }
-        books.completed.insert(named);
+        let stale = self.books[port].note_completed(named);
         self.tick_ring_if(kind, stale, "completed, named in an earlier opening too");
     }
 

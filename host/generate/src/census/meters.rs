@@ -1,10 +1,11 @@
 //! Records of counters: what each answer raised in them, zeroings, and trials of any words.
 
 use super::Census;
-use crate::meters::{named_port, numbers, Trial, Words, KINDS, REFUSALS, STATUSES};
+use crate::meters::{named_port, numbers, Trial, Words, COUNTS, KINDS, REFUSALS, STATUSES};
 use crate::{Call, Outcome};
 use history::{History, Record, State};
-use kernelharp::words::{done, kind, turn};
+use kernelharp::layout::ENTRIES;
+use kernelharp::words::{done, kind, many, turn, ManyWords};
 use kernelharp::Meter;
 use second::Refusal;
 
@@ -12,7 +13,7 @@ use second::Refusal;
 const NAMES: [&str; 4] = ["taken", "okay", "error", "not supported"];
 
 /// What the answers of ports raise (rule 15.4).
-const RAISED: [(&str, &str); 7] = [
+const RAISED: [(&str, &str); 15] = [
     ("started", "taken"),
     ("answered", "taken and error"),
     ("answered", "taken and not supported"),
@@ -20,21 +21,26 @@ const RAISED: [(&str, &str); 7] = [
     ("completed", "error"),
     ("completed", "not supported"),
     ("overrun", NOTHING),
+    ("list", NOTHING),
+    ("list", "okay"),
+    ("list", "error"),
+    ("list", "not supported"),
+    ("list", "okay and error"),
+    ("list", "okay and not supported"),
+    ("list", "error and not supported"),
+    ("list", "okay and error and not supported"),
 ];
 
 const NOTHING: &str = "nothing";
 
-const WRONG_LENGTH: u32 = Refusal::WrongLength as u32;
-const NO_PORT: u32 = Refusal::NoPort as u32;
-const IS_CLOSED: u32 = Refusal::IsClosed as u32;
-
-/// By number: 1, 2, 4 and 6.
-const REFUSED_COMPLETIONS: [&str; 4] = [
-    "complete refused 01",
-    "complete refused 02",
-    "complete refused 04",
-    "complete refused 06",
+/// The refusals of a completion; those of a list are these and 7.
+const REFUSED_COMPLETIONS: [u32; 4] = [
+    Refusal::WrongLength as u32,
+    Refusal::NoPort as u32,
+    Refusal::IsClosed as u32,
+    Refusal::NotBusy as u32,
 ];
+const TOO_MANY: u32 = Refusal::TooMany as u32;
 
 /// The classes that ports of each layout should show.
 pub fn port_meter_classes() -> Vec<String> {
@@ -57,7 +63,13 @@ pub fn port_meter_classes() -> Vec<String> {
 pub fn meter_classes() -> Vec<String> {
     let mut classes = vec![raised_class("idle", NOTHING)];
     classes.push(raised_class("turn refused 01", NOTHING));
-    classes.extend(REFUSED_COMPLETIONS.map(|answer| raised_class(answer, NOTHING)));
+    for (call, code) in REFUSED_COMPLETIONS
+        .into_iter()
+        .flat_map(|code| [("complete", code), ("list", code)])
+        .chain([("list", TOO_MANY)])
+    {
+        classes.push(raised_class(&refused_name(call, code), NOTHING));
+    }
     for state in [State::Closed, State::Open, State::Broken] {
         classes.push(no_port_class(state).into());
         classes.push(zeroed_class(state).into());
@@ -68,8 +80,12 @@ pub fn meter_classes() -> Vec<String> {
     for was_done in [true, false] {
         classes.extend(KINDS.map(|kind| kind_class(kind, was_done)));
         classes.extend(STATUSES.map(|status| completed_class(status, was_done)));
+        classes.extend(COUNTS.map(|count| counted_class(count, was_done)));
     }
     classes.extend(STATUSES.map(answered_class));
+    for place in LIST_PLACES {
+        classes.extend(STATUSES.map(|status| listed_class(place, status)));
+    }
     classes.extend(full_classes());
     classes
 }
@@ -84,6 +100,7 @@ fn full_classes() -> Vec<String> {
     for status in &NAMES[1..] {
         classes.push(apart_class(NAMES[0], status));
         classes.push(apart_class(status, NAMES[0]));
+        classes.push(passed_class(status));
     }
     classes
 }
@@ -134,6 +151,24 @@ fn completed_class(status: u64, was_done: bool) -> String {
     format!("any words, completed with {status:#x}, {code}")
 }
 
+fn counted_class(count: u64, was_done: bool) -> String {
+    let code = done_or_refused(was_done);
+    format!("any words, list of {count:#x}, {code}")
+}
+
+/// Places of a list's statuses.
+const LIST_PLACES: [&str; 3] = ["first", "last", "next"];
+
+/// A status at a place of a list: the first that counts, the last, or the one behind it.
+fn listed_class(place: &str, status: u64) -> String {
+    format!("any words, list with {status:#x}, {place}")
+}
+
+/// A number that a list would raise beyond its end.
+fn passed_class(name: &str) -> String {
+    format!("{name} stops at 2^64 - 1 within a list")
+}
+
 fn arrived_class(name: &str) -> String {
     format!("{name} gets to 2^64 - 1")
 }
@@ -146,36 +181,38 @@ fn apart_class(full: &str, other: &str) -> String {
     format!("{full} stays at 2^64 - 1, {other} rises")
 }
 
-/// What a turn or a completion and its outcome are called.
-fn answer_name(call: &Call, outcome: &Outcome) -> &'static str {
-    match (call, outcome.code) {
+/// What a turn, a completion or a list and its outcome are called.
+fn answer_name(call: &Call, outcome: &Outcome) -> String {
+    let name = match (call, outcome.code) {
         (Call::Turn { .. }, 0) => match outcome.turned[turn::KIND] {
             kind::IDLE => "idle",
             kind::STARTED => "started",
             kind::ANSWERED => "answered",
             _ => "overrun",
         },
-        (Call::Turn { .. }, _) => "turn refused 01",
+        (Call::CompleteMany { .. }, 0) => "list",
         (_, 0) => "completed",
-        (_, WRONG_LENGTH) => REFUSED_COMPLETIONS[0],
-        (_, NO_PORT) => REFUSED_COMPLETIONS[1],
-        (_, IS_CLOSED) => REFUSED_COMPLETIONS[2],
-        _ => REFUSED_COMPLETIONS[3],
-    }
+        (Call::Turn { .. }, code) => return refused_name("turn", code),
+        (Call::CompleteMany { .. }, code) => return refused_name("list", code),
+        (_, code) => return refused_name("complete", code),
+    };
+    name.into()
+}
+
+fn refused_name(call: &str, code: u32) -> String {
+    format!("{call} refused {code:02}")
 }
 
 /// The numbers that an answer raised.
-fn raised_names(before: &Record, after: &Record) -> &'static str {
-    let raised: [bool; 4] = std::array::from_fn(|at| before[at] != after[at]);
-    match raised {
-        [false, false, false, false] => NOTHING,
-        [true, false, false, false] => "taken",
-        [true, false, true, false] => "taken and error",
-        [true, false, false, true] => "taken and not supported",
-        [false, true, false, false] => "okay",
-        [false, false, true, false] => "error",
-        [false, false, false, true] => "not supported",
-        _ => "what no answer raises",
+fn raised_names(before: &Record, after: &Record) -> String {
+    let raised: Vec<&str> = (0..NAMES.len())
+        .filter(|&at| before[at] != after[at])
+        .map(|at| NAMES[at])
+        .collect();
+    if raised.is_empty() {
+        NOTHING.into()
+    } else {
+        raised.join(" and ")
     }
 }
 
@@ -190,6 +227,7 @@ fn due(trial: &Trial) -> Record {
     match &trial.words {
         Words::Turn(words) => meter.turn_words(trial.returned, words),
         Words::Completion(words) => meter.completion_words(trial.returned, words),
+        Words::Many(words) => meter.many_words(trial.returned, words),
     }
     [meter.taken, meter.okay, meter.error, meter.not_supported]
 }
@@ -207,7 +245,7 @@ impl Census {
             return;
         }
         let raised = raised_names(&numbers(before), &numbers(after));
-        let class = raised_class(answer_name(call, outcome), raised);
+        let class = raised_class(&answer_name(call, outcome), &raised);
         if named_port(call, outcome).is_none() {
             self.tick(&class);
             return self.tick(no_port_class(history.state(port)));
@@ -248,10 +286,31 @@ impl Census {
                 let known = STATUSES.contains(&status);
                 self.tick_if(known, &completed_class(status, was_done));
             }
+            Words::Many(words) => self.note_list_trial(words, was_done),
         }
         let known = REFUSALS.contains(&trial.returned);
         self.tick_if(known, &returned_class(trial.returned));
         self.note_ends(&due(trial), &numbers(&trial.meter), &numbers(after));
+    }
+
+    /// Counts the words of a list: how many are said to count, and statuses on both sides of the last.
+    fn note_list_trial(&mut self, words: &ManyWords, was_done: bool) {
+        let (said, statuses) = (words[many::COUNT], &words[many::STATUSES..]);
+        self.tick_if(COUNTS.contains(&said), &counted_class(said, was_done));
+        let count = usize::try_from(said).map_or(ENTRIES, |said| said.min(ENTRIES));
+        if was_done && count > 0 {
+            let places = [
+                Some(&statuses[0]),
+                Some(&statuses[count - 1]),
+                statuses.get(count),
+            ];
+            for (place, status) in LIST_PLACES.into_iter().zip(places) {
+                let status = status.filter(|status| STATUSES.contains(status));
+                if let Some(status) = status {
+                    self.tick(&listed_class(place, *status));
+                }
+            }
+        }
     }
 
     /// Counts numbers that are, or get, as great as they can be.
@@ -260,6 +319,8 @@ impl Census {
         for at in raised() {
             if before[at] < u64::MAX {
                 self.tick_if(after[at] == u64::MAX, &arrived_class(NAMES[at]));
+                let passed = before[at].checked_add(due[at]).is_none();
+                self.tick_if(passed, &passed_class(NAMES[at]));
                 continue;
             }
             self.tick(&full_class(NAMES[at]));

@@ -60,9 +60,9 @@ impl Standing {
 /// What rings of these sizes should show, and whether it is seen.
 type Class = (&'static [Pages], &'static str, fn(&Standing) -> bool);
 
-const BOTH: &[Pages] = &Pages::ALL;
-const ONE: &[Pages] = &[Pages::One];
-const TWO: &[Pages] = &[Pages::Two];
+pub const BOTH: &[Pages] = &Pages::ALL;
+pub const ONE: &[Pages] = &[Pages::One];
+pub const TWO: &[Pages] = &[Pages::Two];
 
 const LAST: u32 = u32::MAX;
 

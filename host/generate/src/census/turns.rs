@@ -2,6 +2,7 @@
 
 use super::rings::{served_after_class, Standing};
 use super::{wrong_length, yes_or_no, Census, ONE_PAGE_RINGS};
+use crate::generator::expected;
 use crate::Ring;
 use history::{History, State};
 use kernelharp::layout::{
@@ -51,7 +52,9 @@ impl Census {
         match answer[turn::KIND] {
             kind::IDLE => return self.note_idle(history),
             kind::STARTED => {
-                standing.tag = Some(answer[turn::TAG] as u32);
+                let tag = answer[turn::TAG] as u32;
+                standing.tag = Some(tag);
+                self.books[port].expected.insert(tag, expected(answer));
                 self.note_start(abi, answer);
                 self.note_close_start(port, answer);
             }

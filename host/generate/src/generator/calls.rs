@@ -13,7 +13,18 @@ impl Generator {
         match self.random.below(100) {
             0..=7 => self.choose_open(),
             8..=13 => self.choose_close(),
-            choice if choice < 14 + completions => self.choose_completion(),
+            choice if choice < 14 + completions => {
+                let port = self.port_with_begun();
+                if self.guests[port].answered() > u32::MAX - 4 && self.random.chance(85) {
+                    // So that more than one is in flight when responses come to 2^32.
+                    self.list_across_the_wrap()
+                        .unwrap_or_else(|| self.choose_turn())
+                } else if self.random.chance(40) {
+                    self.choose_list(port)
+                } else {
+                    self.choose_completion(port)
+                }
+            }
             _ => self.choose_turn(),
         }
     }
@@ -34,7 +45,7 @@ impl Generator {
 
     /// Empty, one port's share, one byte off, one share too much, the other buffer's, one half, as rings
     /// of one page each would have it, or any.
-    fn wrong_length(&mut self, due: usize) -> usize {
+    pub(super) fn wrong_length(&mut self, due: usize) -> usize {
         let share = due / PORTS;
         let other = RINGS_BYTES + GRANTS_BYTES - due;
         match self.random.index(9) {
@@ -49,12 +60,12 @@ impl Generator {
         }
     }
 
-    fn port_above(&mut self) -> u32 {
+    pub(super) fn port_above(&mut self) -> u32 {
         self.random.pick(&[8, 9, 255, 256, 1 << 31, u32::MAX])
     }
 
     /// A port in one of the states, or any port when there is none.
-    fn port_in(&mut self, states: &[State]) -> usize {
+    pub(super) fn port_in(&mut self, states: &[State]) -> usize {
         let ports: Vec<usize> = (0..PORTS)
             .filter(|&port| states.contains(&self.guests[port].state))
             .collect();
@@ -111,12 +122,11 @@ impl Generator {
             .unwrap_or(start)
     }
 
-    fn choose_completion(&mut self) -> Call {
+    fn choose_completion(&mut self, port: usize) -> Call {
         let mut rings_bytes = RINGS_BYTES;
         if self.random.chance(2) {
             rings_bytes = self.wrong_length(RINGS_BYTES);
         }
-        let port = self.port_with_begun();
         let guest = &self.guests[port];
         let mut port = port as u32;
         let (mut tag, mut serial, mut expected) = (0, guest.taken, 0);
@@ -151,7 +161,7 @@ impl Generator {
         Call::Complete { rings_bytes, named }
     }
 
-    fn wrong_serial(&mut self, serial: u32) -> u32 {
+    pub(super) fn wrong_serial(&mut self, serial: u32) -> u32 {
         match self.random.index(5) {
             0 => serial.wrapping_add(1),
             1 => serial.wrapping_add(32),
@@ -161,7 +171,7 @@ impl Generator {
         }
     }
 
-    fn any_finished(&mut self, port: usize) -> Option<&(u32, u32)> {
+    pub(super) fn any_finished(&mut self, port: usize) -> Option<&(u32, u32)> {
         let finished = &self.guests[port].finished;
         if finished.is_empty() {
             return None;
@@ -182,7 +192,7 @@ impl Generator {
             .unwrap_or(start)
     }
 
-    fn any_result(&mut self, expected: i32) -> i32 {
+    pub(super) fn any_result(&mut self, expected: i32) -> i32 {
         match self.random.index(20) {
             0 => 0,
             1 => expected - 1,

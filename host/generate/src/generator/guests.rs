@@ -103,6 +103,26 @@ impl Generator {
         }
     }
 
+    /// Mostly a guest has just asked for the event of a response around those that a list is to give.
+    pub(super) fn ask_for_event(&mut self, port: u32, responses: u32, writes: &mut Vec<Write>) {
+        let port = port as usize;
+        if port >= PORTS || self.random.chance(10) {
+            return;
+        }
+        let ahead = match self.random.index(8) {
+            0 => 0,
+            1 => 1,
+            2 => self.random.below(u64::from(responses) + 1) as u32,
+            3 => responses,
+            4 => responses + 1,
+            5 => responses + 2 + self.random.below(70) as u32,
+            6 => u32::MAX - self.random.below(3) as u32,
+            _ => self.random.word() as u32,
+        };
+        let event = self.guests[port].answered().wrapping_add(ahead);
+        write_ring(writes, port, RSP_EVENT, &event.to_le_bytes());
+    }
+
     /// Posts requests as far as there is room, or says when it wants to be told of responses.
     fn act_politely(&mut self, world: &World, port: usize, faulty: u64, writes: &mut Vec<Write>) {
         if self.guests[port].state != State::Open {

@@ -1,9 +1,9 @@
 //! A backend over live rings.
 
 use super::SharedRing;
-use crate::answers::{Done, Turn};
+use crate::answers::{Done, DoneMany, Turn};
 use crate::backend::Backend;
-use crate::ffi::{ArchiveMismatch, Meter};
+use crate::ffi::{ArchiveMismatch, Entry, Meter};
 use crate::layout::{Abi, Pages, PORTS, PORT_GRANTS};
 use crate::names::{Name, Port};
 use crate::terms::Refusal;
@@ -111,14 +111,33 @@ impl LiveBackend {
 
     /// Answers a started request, as [`Backend::complete`] has it.
     pub fn complete(&mut self, name: Name, result: i32) -> Result<Done, Refusal> {
-        let LiveBackend { backend, rings } = self;
-        let Some(ring) = &mut rings[name.port.index()] else {
-            return Err(Refusal::IsClosed);
-        };
-        ring.copy_rsp_event_in(backend.ring_mut(name.port));
+        let (backend, ring) = self.about_to_complete(name.port)?;
         let mut done = backend.complete(name, result)?;
         done.notify = ring.copy_response_out(backend.ring(name.port), done.notify);
         Ok(done)
+    }
+
+    /// Answers many started requests of a port, as [`Backend::complete_many`] has it: their responses go
+    /// out together, with one second look at rsp_event for all of them.
+    pub fn complete_many(&mut self, port: Port, entries: &[Entry]) -> Result<DoneMany, Refusal> {
+        let (backend, ring) = self.about_to_complete(port)?;
+        let mut done = backend.complete_many(port, entries)?;
+        let responses = done.statuses().len() as u32;
+        done.notify = ring.copy_responses_out(responses, backend.ring(port), done.notify);
+        Ok(done)
+    }
+
+    /// The backend with what a completion reads copied in, and the ring that its responses go out to.
+    fn about_to_complete(
+        &mut self,
+        port: Port,
+    ) -> Result<(&mut Backend, &mut SharedRing), Refusal> {
+        let LiveBackend { backend, rings } = self;
+        let Some(ring) = &mut rings[port.index()] else {
+            return Err(Refusal::IsClosed);
+        };
+        ring.copy_rsp_event_in(backend.ring_mut(port));
+        Ok((backend, ring))
     }
 
     /// One turn, with what it needs copied in and what it wrote copied out.

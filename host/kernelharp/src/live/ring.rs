@@ -99,7 +99,7 @@ impl SharedRing {
         self.copy_rsp_event_in(private);
     }
 
-    /// Before a completion: rsp_event, the one guest word that it reads.
+    /// Before a completion, or a list of them: rsp_event, the one guest word that it reads.
     pub fn copy_rsp_event_in(&self, private: &mut [u8; RING_BYTES]) {
         self.mapped.copy_in(RSP_EVENT, WORD_BYTES, private);
     }
@@ -126,11 +126,33 @@ impl SharedRing {
     /// rsp_prod. Says whether the guest is to be notified, with what the call said about it.
     #[must_use = "a guest that is not notified may sleep for ever"]
     pub fn copy_response_out(&mut self, private: &[u8; RING_BYTES], call_said: bool) -> bool {
+        self.copy_responses_out(1, private, call_said)
+    }
+
+    /// After a list of completions that gave so many responses: all of them, then rsp_prod, once. Says
+    /// whether the guest is to be notified, likewise. An empty list gave none, and nothing goes out.
+    ///
+    /// # Panics
+    ///
+    /// Where there are more responses than the ring has slots.
+    #[must_use = "a guest that is not notified may sleep for ever"]
+    pub fn copy_responses_out(
+        &mut self,
+        responses: u32,
+        private: &[u8; RING_BYTES],
+        call_said: bool,
+    ) -> bool {
+        assert!(responses <= self.pages.slots(), "a response has a slot");
+        if responses == 0 {
+            return call_said;
+        }
         let old = self.rsp_prod_pvt;
-        let new = old.wrapping_add(1);
-        let at = self.slot_at(old);
-        self.mapped.copy_out(at, self.abi.response_bytes(), private);
-        // The response is there before the index that publishes it.
+        let new = old.wrapping_add(responses);
+        for ahead in 0..responses {
+            let at = self.slot_at(old.wrapping_add(ahead));
+            self.mapped.copy_out(at, self.abi.response_bytes(), private);
+        }
+        // The responses are there before the index that publishes them.
         fence(Ordering::Release);
         self.mapped.copy_out(RSP_PROD, WORD_BYTES, private);
         self.rsp_prod_pvt = new;

@@ -3,7 +3,7 @@
 
 use super::{LiveBackend, Mapping, NotOpened, SharedRing, PAGE_WORDS};
 use crate::answers::{Plan, Turn};
-use crate::ffi::Meter;
+use crate::ffi::{Entry, Meter};
 use crate::layout::{
     read_u32, write_u32, Abi, Pages, PAGE_BYTES, REQ_EVENT, REQ_PROD, RING_BYTES, RING_PAGES,
     RSP_EVENT, RSP_PROD,
@@ -59,8 +59,12 @@ with_every_ring! {
     every_request_of_a_full_ring_is_copied
     a_response_leaves_what_the_guest_wrote_meanwhile
     rsp_event_is_looked_at_again
+    responses_of_a_list_go_out_together
+    rsp_event_is_looked_at_again_after_a_list
+    an_empty_list_leaves_the_ring
     an_idle_turn_writes_req_event_alone
     turns_and_completions_through_a_live_ring
+    lists_through_a_live_ring
     a_broken_port_is_neither_read_nor_armed_but_completes
     every_slot_comes_round
     a_port_is_metered_across_openings
@@ -437,6 +441,60 @@ fn rsp_event_is_looked_at_again(abi: Abi, pages: Pages) {
     }
 }
 
+/// Of every length, from every slot on: the responses' bytes and rsp_prod, around the ring's end too.
+fn responses_of_a_list_go_out_together(abi: Abi, pages: Pages) {
+    let guest = Guest::new(abi, pages);
+    let (mut shared, private) = (guest.opened().0, [0xEE; RING_BYTES]);
+    let mut first = 0;
+    for responses in (1..=pages.slots()).chain([3, pages.slots()]) {
+        guest.write(0, &[PATTERN; RING_BYTES]);
+        let before = guest.bytes();
+        let _ = shared.copy_responses_out(responses, &private, false);
+        let listed = (first..first + responses).flat_map(|index| guest.response(index));
+        let mut due: Vec<usize> = (RSP_PROD..RSP_PROD + 4).chain(listed).collect();
+        due.sort_unstable();
+        assert_eq!(guest.changed(&before), due, "{responses} from {first}");
+        first += responses;
+    }
+}
+
+/// Once for all: an index from behind the old one up to the new one asks for it.
+fn rsp_event_is_looked_at_again_after_a_list(abi: Abi, pages: Pages) {
+    for (event, said, due) in [
+        (4, false, false),
+        (5, false, true),
+        (7, false, true),
+        (9, false, true),
+        (10, false, false),
+        (10, true, true),
+        (u32::MAX, false, false),
+    ] {
+        let guest = Guest::new(abi, pages);
+        let (mut shared, private) = guest.opened();
+        let _ = shared.copy_responses_out(4, &private, false);
+        guest.set(RSP_EVENT, event);
+        let told = shared.copy_responses_out(5, &private, said);
+        assert_eq!(told, due, "rsp_event {event}, the call said {said}");
+    }
+}
+
+fn an_empty_list_leaves_the_ring(abi: Abi, pages: Pages) {
+    let (mut backend, guest) = opened(abi, pages);
+    guest.post(0, FLUSH);
+    let plan = started(backend.turn());
+    // Neither rsp_prod, which a guest may have spoilt, nor a notice for the responses before.
+    for (rsp_prod, rsp_event) in [(77, 0), (0, 1), (u32::MAX, u32::MAX)] {
+        guest.set(RSP_PROD, rsp_prod);
+        guest.set(RSP_EVENT, rsp_event);
+        let before = guest.bytes();
+        let done = backend.complete_many(port(2), &[]).unwrap();
+        assert_eq!((done.statuses(), done.notify), (&[][..], false));
+        assert_eq!(guest.changed(&before), [0; 0]);
+    }
+    backend.complete(plan.name, 0).map(drop).unwrap();
+    assert_eq!(guest.get(RSP_PROD), 1);
+}
+
 fn an_idle_turn_writes_req_event_alone(abi: Abi, pages: Pages) {
     let (mut backend, guest) = opened(abi, pages);
     guest.set(REQ_EVENT, 0x0202_0202);
@@ -482,6 +540,42 @@ fn turns_and_completions_through_a_live_ring(abi: Abi, pages: Pages) {
     });
     assert_eq!(backend.turn(), Turn::Idle);
     assert_eq!(guest.get(REQ_EVENT), 3);
+}
+
+/// As many as the ring has, in lists of growing lengths, last started first.
+fn lists_through_a_live_ring(abi: Abi, pages: Pages) {
+    let (mut backend, guest) = opened(abi, pages);
+    (0..pages.slots()).for_each(|index| guest.post(index, FLUSH));
+    let starts = (0..pages.slots()).map(|_| started(backend.turn()));
+    let mut ended: Vec<Entry> = starts.map(|plan| Entry::of(plan.name, -5)).collect();
+    let mut answered = 0;
+    for length in [1, 2, 5, 24].into_iter().chain([32]) {
+        let list = ended.split_off(ended.len().saturating_sub(length));
+        if list.is_empty() {
+            break;
+        }
+        let list: Vec<Entry> = list.into_iter().rev().collect();
+        let last = answered + list.len() as u32;
+        guest.set(RSP_EVENT, last);
+        let before = guest.bytes();
+        let twice = [&list[..], &list[..1]].concat();
+        let refused = backend.complete_many(port(2), &twice);
+        assert_eq!(refused, Err(Refusal::NotBusy));
+        assert_eq!(guest.changed(&before), [0; 0], "a refused list");
+        let done = backend.complete_many(port(2), &list).unwrap();
+        assert!(done.notify, "the last response is asked for");
+        assert_eq!(done.statuses(), vec![Status::Error; list.len()]);
+        assert_eq!(guest.get(RSP_PROD), last);
+        for index in answered..last {
+            let id = (pages.slots() - 1 - index) as u8;
+            let response = &guest.bytes()[guest.response(index)];
+            assert_eq!((response[0], response[8]), (id, FLUSH));
+        }
+        answered = last;
+    }
+    assert_eq!(answered, pages.slots());
+    let fault = backend.complete_many(port(1), &[]);
+    assert_eq!(fault, Err(Refusal::IsClosed));
 }
 
 fn a_broken_port_is_neither_read_nor_armed_but_completes(abi: Abi, pages: Pages) {

@@ -2,9 +2,11 @@
 
 use super::*;
 use crate::answers::Turned;
-use crate::layout::{read_u32, Layout, ONE_PAGE_SLOTS, REQ_PROD, RSP_PROD, TWO_PAGE_SLOTS};
+use crate::layout::{
+    read_u32, Layout, ONE_PAGE_SLOTS, REQ_PROD, RSP_EVENT, RSP_PROD, TWO_PAGE_SLOTS,
+};
 use crate::sheet::Disk;
-use crate::terms::{Reason, Status};
+use crate::terms::Reason;
 
 /// A ring of each layout and size.
 const RINGS: [Disk; 4] = [
@@ -93,6 +95,38 @@ fn started_at_the_wrap() {
         assert_eq!(done.map(|done| done.status), Ok(Status::Okay));
         assert_eq!(read_u32(&rings, RSP_PROD), 0);
         assert_eq!(rings[last_slot(&disk) + 8], 3);
+    }
+}
+
+/// Three flushes in flight from index 2^32 - 2 on, completed by one list in another order.
+#[test]
+fn a_list_across_the_wrap() {
+    for disk in RINGS {
+        let (mut rings, grants) = buffers();
+        let begin = u32::MAX - 1;
+        let mut backend = backend_at(&disk, begin);
+        for index in [begin, u32::MAX, 0] {
+            let at = disk.layout.slot_at(disk.slots, index);
+            (rings[at], rings[at + 1]) = (3, 0);
+            rings[at + disk.layout.id] = 50 + index.wrapping_sub(begin) as u8;
+            write_u32(&mut rings, REQ_PROD, index.wrapping_add(1));
+            let turned = backend.turn(&mut rings, &grants);
+            assert!(matches!(turned, Ok(Turned::Started(_))), "{turned:?}");
+        }
+        write_u32(&mut rings, RSP_EVENT, 0);
+        let entries = [[2, 0, 0], [0, begin.into(), 5], [1, u32::MAX.into(), 0]];
+        let done = backend.complete_many(&mut rings, 0, &entries.concat());
+        let answer = DoneMany {
+            port: 0,
+            statuses: vec![Status::Okay, Status::Error, Status::Okay],
+            notify: true,
+        };
+        assert_eq!(done, Ok(answer));
+        assert_eq!(read_u32(&rings, RSP_PROD), 1);
+        for (index, id) in [(begin, 52), (u32::MAX, 50), (0, 51)] {
+            assert_eq!(rings[disk.layout.slot_at(disk.slots, index)], id);
+        }
+        assert_eq!(backend.close(0), Ok(()));
     }
 }
 

@@ -2,6 +2,8 @@
 use borrow.Author.Needs.{needs}
 use mathlib.Core.Path.{sym, ap}
 use Rattle.model.specs.Answers.{completedNumber}
+use Rattle.model.specs.Complete.{ofOne}
+use Rattle.model.specs.declared.Completed.{Completed}
 use Rattle.answers.proofs.completed.put_completed.Statement.{statement}
 use Rattle.answers.proofs.completed.put_completed.Tie as tie
 
@@ -17,12 +19,12 @@ put-done-requires c κs = search needs
 returns : tie.Need-returns
 returns c =
     let e = c .before .completed .given .1 in
-    (sym (ap completedNumber e), rw e)
+    (sym (ap (λ (x : Completed). completedNumber (ofOne x)) e), rw e)
 
 returns-2 : tie.Need-returns-2
 returns-2 c =
     let e = c .before .before .before .completed2 .given .1 in
-    (sym (ap completedNumber e), rw e (c .put-done .ensures))
+    (sym (ap (λ (x : Completed). completedNumber (ofOne x)) e), rw e (c .put-done .ensures))
 
 pub put-completed-spec : {M : Type 1} → statement M
 put-completed-spec =

@@ -12,7 +12,7 @@ returns : tie.Need-returns
 returns c =
     let start = c .before .before in
     let a = start .args in
-    complete-wrong-length (a .memory .now) (a .rings .now) (a .port) (a .tag) (a .serial) (a .result) (c .if1 .taken)
+    complete-wrong-length (a .memory .now) (a .rings .now) (a .port) (a .tag) (a .serial) (a .result) (start .fits .result) (c .if1 .taken)
 
 cast-k : tie.Need-cast-k
 cast-k c = search needs
@@ -21,7 +21,7 @@ returns-2 : tie.Need-returns-2
 returns-2 c =
     let start = c .before .before .before .before in
     let a = start .args in
-    complete-no-port (a .memory .now) (a .rings .now) (a .port) (a .tag) (a .serial) (a .result) (omega arith) (omega (arith, c .if2 .taken))
+    complete-no-port (a .memory .now) (a .rings .now) (a .port) (a .tag) (a .serial) (a .result) (start .fits .result) (omega arith) (omega (arith, c .if2 .taken))
 
 state-requires : tie.Need-state-requires
 state-requires c κs = search needs
@@ -40,7 +40,7 @@ returns-3 c =
     let at = c .before .before in
     let start = at .before .before .before .before .before .before in
     let a = start .args in
-    complete-closed (a .memory .now) (a .rings .now) (a .port) (a .tag) (a .serial) (a .result) (omega arith) (omega arith) (rw (← at .state .ensures, c .enum-told .given .1))
+    complete-closed (a .memory .now) (a .rings .now) (a .port) (a .tag) (a .serial) (a .result) (start .fits .result) (omega arith) (omega arith) (rw (← at .state .ensures, c .enum-told .given .1))
 
 same-length : tie.Need-same-length
 same-length c = search needs

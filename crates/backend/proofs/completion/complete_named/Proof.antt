@@ -51,7 +51,7 @@ returns c =
     let sized = c .before in
     let a = entry sized .args in
     let o = entry sized .pre in
-    complete-no-tag (a .memory .now) (a .rings .now) (a .port) (a .tag) (a .serial) (a .result) (o .pages) (o .inUse .small) (o .inUse .opened) (ltb-false _ _ (sym (tested sized) ∙ not-true _ (c .if1 .taken)))
+    complete-no-tag (a .memory .now) (a .rings .now) (a .port) (a .tag) (a .serial) (a .result) (entry sized .fits .result) (o .pages) (o .inUse .small) (o .inUse .opened) (ltb-false _ _ (sym (tested sized) ∙ not-true _ (c .if1 .taken)))
 
 port-at-requires : tie.Need-port-at-requires
 port-at-requires c κs = search needs
@@ -66,7 +66,7 @@ returns-2 c =
     let sized = at .before .before .before in
     let a = entry sized .args in
     let o = entry sized .pre in
-    complete-free (a .memory .now) (a .rings .now) (a .port) (a .tag) (a .serial) (a .result) (o .pages) (o .inUse .small) (o .inUse .opened) (rw (← at .port-at .ensures, ← busy .is-busy .ensures) (not-true _ (c .if2 .taken)))
+    complete-free (a .memory .now) (a .rings .now) (a .port) (a .tag) (a .serial) (a .result) (entry sized .fits .result) (o .pages) (o .inUse .small) (o .inUse .opened) (rw (← at .port-at .ensures, ← busy .is-busy .ensures) (not-true _ (c .if2 .taken)))
 
 cast-tag-at : tie.Need-cast-tag-at
 cast-tag-at c = search needs
@@ -86,7 +86,7 @@ returns-3 c =
     let sized = few .before in
     let a = entry sized .args in
     let o = entry sized .pre in
-    complete-other-serial (a .memory .now) (a .rings .now) (a .port) (a .tag) (a .serial) (a .result) (o .pages) (o .inUse .small) (o .inUse .opened) (ltb-true _ _ (sym (tested sized) ∙ not-false _ (few .if1 .left)))
+    complete-other-serial (a .memory .now) (a .rings .now) (a .port) (a .tag) (a .serial) (a .result) (entry sized .fits .result) (o .pages) (o .inUse .small) (o .inUse .opened) (ltb-true _ _ (sym (tested sized) ∙ not-false _ (few .if1 .left)))
     (rw (← at .port-at .ensures, ← busy .is-busy .ensures) (not-false _ (held .if2 .left))) (rw (← found .tag-at .ensures) (c .if3 .taken))
 
 finish-requires : tie.Need-finish-requires
@@ -117,8 +117,8 @@ returns-4 c =
     let start = entry sized in
     let a = start .args in
     let o = start .pre in
-    complete-done (a .memory .now) (a .rings .now) (a .port) (a .tag) (a .serial) (a .result) (o .pages) (o .inUse .small) (o .inUse .opened) (ltb-true _ _ (sym (tested sized) ∙ not-false _ (few .if1 .left)))
-    (rw (← at .port-at .ensures, ← busy .is-busy .ensures) (not-false _ (held .if2 .left))) _ _ _ (rw (← found .tag-at .ensures) (met .if3 .left))
+    complete-done (a .memory .now) (a .rings .now) (a .port) (a .tag) (a .serial) (a .result) (entry sized .fits .result) (o .pages) (o .inUse .small) (o .inUse .opened) (ltb-true _ _ (sym (tested sized) ∙ not-false _ (few .if1 .left)))
+    (rw (← at .port-at .ensures, ← busy .is-busy .ensures) (not-false _ (held .if2 .left))) _ (done .finish .result) _ (rw (← found .tag-at .ensures) (met .if3 .left))
     (rw (← found .tag-at .ensures) (rw (toZ-ofZ w32 (a .result) (start .fits .result)) at (done .finish .ensures)))
 
 pub complete-named-spec : {M : Type 1} → statement M

@@ -1,5 +1,5 @@
 -- `counters::cases::after_completion` meets its contract. Assumes nothing.
-use mathlib.Core.Path.{sym}
+use mathlib.Core.Path.{_∙_}
 use borrow.Author.Needs.{needs}
 use Rattle.counters.proofs.cases.after_completion.Statement.{statement}
 use Rattle.counters.proofs.cases.after_completion.Tie as tie
@@ -11,7 +11,7 @@ raised-requires : tie.Need-raised-requires
 raised-requires c κs = search needs
 
 returns : tie.Need-returns
-returns c = rw (sym (c .before .completed-by .ensures)) (c .raised .ensures)
+returns c = c .raised .ensures ∙ c .before .completed-by .ensures (c .before .before .args .counters)
 
 pub after-completion-spec : {M : Type 1} → statement M
 after-completion-spec = tie.close (tie.spec completed-by-requires raised-requires returns)

@@ -1,7 +1,7 @@
 -- `counters::place::raise` meets its contract: a walk of its MIR, by hand. The borrow is opened and the record copied, `raised` is called on the copy, the `switch` stores one field, and the borrow is closed.
 -- All that the proof knows of `raised` is that it meets its contract. The switch goes by cases on the enum: the record with the one field stored is then the one that `raised` gave, by computation.
 -- Assumes nothing.
-use mathlib.Core.Path.{_≡_, refl, _∙_, ap, subst}
+use mathlib.Core.Path.{_≡_, refl}
 use Prim.Native.Nat.{ℕ}
 use mathlib.Core.Option as option
 use mathlib.Core.List.{[], _∷_, List}
@@ -13,8 +13,8 @@ use package.mir.MapTy.{mapBody}
 use package.mir.Table.{spell}
 use package.mir.Val.{Val, vunit, vint, vptr, vstruct, Vals, vnil, vcons, hasTy, WT}
 use package.mir.Fields.{getV, setV}
-use base.Logic.{SProp, ent, sep, emp, via, fst∗, snd∗, exE, id⊢}
-use base.Fml.{GName, Lft, Share, ftrue, flft, fobs, fauth, fbor, fobor, fat, froom, fdies}
+use base.Logic.{SProp, ent, emp, via, fst∗, snd∗, exE, id⊢}
+use base.Fml.{GName, Lft, Share, ftrue, flft, fobs, fauth, fobor, fat, froom, fdies}
 use prog.Memory.{Memory, fieldOf}
 use prog.Routine.{Routine}
 use prog.Wp.{Heap, Env, Calls, Loops, Wp, WpFn, Tables, afterSeq, atReturn}
@@ -22,25 +22,23 @@ use ghost.Atoms.{Atoms, sem}
 use contract.Monad.{Fun, fact}
 use contract.Running.{givenOf, tables, tablesOf}
 use types.Kit as Kit
-use types.Kit.{Given, Item, Sq, runs, anyQ, atRet, ‵, raw, _⊛_, some, later, _$_, _∵_, !, qed, by, move, keep, drop, use0, use1, split, join, pick, rewrite, fsplit, fsplit3, fjoin, fjoin3, feqI, suffices, frame, await, done}
-use types.Run.{look, look-raw, init, forget, stop, hop, fld, from, load, unit-lit, of-opd, and-then, no-more, assigns, assigns-last, first, skips, switches-on, exec, land, returns, enter, alloc1, alloc0, params1, pass1, pass0, free1, free0}
+use types.Kit.{Given, Item, Sq, runs, anyQ, atRet, ⋆, ‵, raw, _⊛_, _$_, _∵_, !, qed, move, drop, use0, split, join, rewrite, fsplit, fjoin, feqI, suffices, frame, done}
+use types.Run.{look, look-raw, init, stop, hop, fld, from, load, unit-lit, of-opd, and-then, no-more, assigns, assigns-last, first, skips, switches-on, exec, land, returns, enter, alloc1, alloc0, params1, pass1, pass0}
 use types.Part.{whole, sub, look-in, store-in}
 use types.Match.{vrt, look-tag}
 use types.SemTy as SemTy
 use sound.WpLaws.{FmC, fmOf, WpFn-mono}
 use denote.RattleType.{owns}
-use denote.Laws.{Is, shows}
+use denote.Laws.{Is}
 use denote.Memory.{mem, cellAt, pointee}
 use denote.Ref.{RefT, MutRef, ptr-vals, mut-tells}
 use denote.Signature.{plain}
-use denote.Steps.{only, opens, closes, owned, facts, heard, nothing}
-use denote.Struct.Steps.{spelt}
+use denote.Steps.{owned, nothing}
 use denote.Struct.Laws as LL
 use denote.Enum.Laws as EL
 use denote.Triple.Entry.{onEntry}
 use denote.Triple.Spec.{Meets, tripleOf}
 use denote.Triple.Statement.{Contract, Triple}
-use denote.Triple.Call.{calls-at}
 use denote.Triple.Clauses.{ensured, lasts}
 use denote.Triple.Table.{entered, cited}
 use denote.Triple.Walked.{says, Stays, stay-ref, stay-none, walkOf, AllGo, goes-none, goes-ref, Walks, ends-at, walked, walk-meets}
@@ -52,6 +50,7 @@ use Rattle.model.proofs.Counter as N
 use Rattle.model.proofs.Counter.Laws as N′
 use Rattle.model.proofs.Counters as R
 use Rattle.model.proofs.Counters.Laws as R′
+use Rattle.counters.proofs.Lent.{val, Good, typed, tag, GoodTag, typed-tag, lent, opened, closed, gives, released}
 use Rattle.counters.proofs.place.raise.Key.{name as #counters·place·raise}
 use Rattle.counters.proofs.place.raise as raise
 use Rattle.counters.proofs.place.raise.Statement as stated
@@ -68,26 +67,12 @@ Arg = RefT Counters × (Counter × Unit {0})
 abbrev stayed : Stays (raise.ended .signature .params) (raise.ended .kept)
 stayed = (stay-ref (0 ∷ []) tt (plain (λ _. R.the-row)), (stay-none (λ _. N.the-row) yes, tt))
 
--- the machine values of a record and of the enum
-abbrev val : Counters → Val
-val = LL.val R.the-type R′.the-laws
-
-abbrev tag : Counter → Val
-tag = EL.val N.the-type N′.the-laws
-
--- those of a record's numbers, and of the k-th
+-- the machine values of a record's numbers, and of the k-th
 abbrev numbers : Counters → Vals
 numbers c = vcons (vint w64 (c .taken)) (vcons (vint w64 (c .okay)) (vcons (vint w64 (c .error)) (vcons (vint w64 (c .unsupported)) vnil)))
 
 abbrev number : Counters → ℕ → Val
 number c k = getV (numbers c) k
-
--- what whoever holds one knows: each of a record's numbers has 64 bits, and the tag is a variant's
-abbrev Good : Counters → Type 0
-Good c = Is R.the-row c (val c ∷ [])
-
-abbrev GoodTag : Counter → Type 0
-GoodTag which = Is N.the-row which (tag which ∷ [])
 
 -- an arm of the switch, which the generated MIR has under no name
 abbrev sets : ℕ → Body
@@ -107,14 +92,15 @@ module _ {M : Type 1} (𝓤 : URA M) (H : Heap 𝓤) (A : Atoms 𝓤) (W : Given
   abbrev Post : Counter → Val → SProp 𝓤
   Post which = walkOf 𝓤 H A raise.ended stayed (raise.clauses 𝓤 H A at-mem run) .post (((κ, tt), (q, tt), tt, x which, at which), tt)
 
-  typed : (c : Counters) (v : Val) → Is R.the-row c (v ∷ []) → T (hasTy R′.mir v) × WT v
-  typed c v is = LL.lawful R.the-type R′.the-laws 𝓤 H A W .typed c _ is .0
+  -- what is left where it returns: the record raised, and its token
+  abbrev Left : Counter → List (Item 𝓤)
+  Left which = ‵ (lent κ b o γ (raisedBy which h)) ∷ ‵ (flft κ q) ∷ []
 
-  exits : (which : Counter) → GoodTag which → ent 𝓤 (sep 𝓤 (A .obs γ (R.the-row .coded .code (raisedBy which h))) (sep 𝓤 (A .bor κ (SemTy.Body (mem R.the-row) b o γ)) (A .lft κ q))) (Post which vunit)
+  exits : (which : Counter) → GoodTag which → ent 𝓤 (⋆ 𝓤 H A (Left which)) (Post which vunit)
   exits which good =
-      qed W (‵ (fobs γ (R.the-row .coded .code (raisedBy which h))) ∷ ‵ (fbor κ (SemTy.Body (mem R.the-row) b o γ)) ∷ ‵ (flft κ q) ∷ []) ∵
+      qed W (Left which) ∵
       suffices ! _ (ends-at 𝓤 H A raise.ended stayed (raise.clauses 𝓤 H A at-mem run) W (((κ, tt), (q, tt), tt, x which, at which), tt) vunit tt (raisedBy which h, (tt, tt)) (tt, (tt, tt))) $ says ! refl $
-      nothing ! $ move ! (3 ∷ 0 ∷ []) $ join ! $ frame ! $ feqI ! (List Val) (vptr b o ∷ []) (vptr b o ∷ []) refl $ fjoin3 ! $ nothing ! $ owned ! N.the-row (Is N.the-row) (EL.makes N.the-type N′.the-plain 𝓤 H A) which _ good $
+      nothing ! $ move ! (2 ∷ 0 ∷ []) $ join ! $ frame ! $ nothing ! $ owned ! N.the-row (Is N.the-row) (EL.makes N.the-type N′.the-plain 𝓤 H A) which _ good $
       fjoin ! $ move ! (1 ∷ 0 ∷ []) $ fjoin ! $ feqI ! (List Val) (vunit ∷ []) (vunit ∷ []) refl $ move ! (1 ∷ 0 ∷ []) $ done !
 
   -- what `raised`'s triple binds outside, and that it may be called: what it asks is had for nothing
@@ -148,11 +134,9 @@ module _ {M : Type 1} (𝓤 : URA M) (H : Heap 𝓤) (A : Atoms 𝓤) (W : Given
     leaves : (which : Counter) → GoodTag which → Good (raisedBy which h) → Sq W (Lies which (raisedBy which h)) (runs C Λ E mir.t-4 (atRet E (Post which)))
     leaves which good-tag good =
         assigns ! (of-opd ! (unit-lit !)) (from ! (stop !)) (init ! 12 refl (tt, tt)) $
-        owned ! R.the-row (Is R.the-row) (LL.makes R.the-type R′.the-plain 𝓤 H A) (raisedBy which h) _ good $ move ! (1 ∷ 0 ∷ []) $ closes ! tt R.the-row (raisedBy which h) (val (raisedBy which h) ∷ []) b o $
-        -- [obs; the borrow; the token; _4; …; _3; …; _2; …; _1; …; _0; …]
-        returns ! (look ! 11 refl) $ forget ! 3 refl $ forget ! 5 refl $ forget ! 7 refl $ forget ! 9 refl $ forget ! 11 refl $
-        move ! (11 ∷ 12 ∷ []) $ free1 ! $ move ! (9 ∷ 10 ∷ []) $ free1 ! $ move ! (7 ∷ 8 ∷ []) $ free1 ! $ move ! (5 ∷ 6 ∷ []) $ free1 ! $ move ! (3 ∷ 4 ∷ []) $ free1 ! $ free0 ! $
-        keep ! (0 ∷ 1 ∷ 2 ∷ []) $ by ! (exits which good-tag)
+        closed ! tt (raisedBy which h) good b o $
+        -- [the record; its token; _4; …; _3; …; _2; …; _1; …; _0; …]
+        returns ! (look ! 10 refl) $ released 𝓤 H A W (Left which) E (_ ∷ _ ∷ _ ∷ _ ∷ _ ∷ []) (exits which good-tag)
 
     -- an arm: field k, which lies at the offset d, is stored, where that makes the record that `raised` gave
     stores : (which : Counter) → GoodTag which → Good (raisedBy which h) → (k d : ℕ) → fieldOf R′.mir k ≡ option.some (tyInt w64, d)
@@ -166,47 +150,36 @@ module _ {M : Type 1} (𝓤 : URA M) (H : Heap 𝓤) (A : Atoms 𝓤) (W : Given
     matched : (which : Counter) → GoodTag which → Good (raisedBy which h) → Sq W (Lies which h) (runs C Λ E mir.s-3 (Then which))
     matched Counter.Taken good-tag good =
         switches-on ! (load ! (from ! (vrt ! refl (fld ! refl (stop !)))) (look-tag ! 8 (whole !))) $ exec ! C Λ E (sets 0) (Then Counter.Taken) $
-        stores Counter.Taken good-tag good 0 0 refl (tt, typed (raisedBy Counter.Taken h) _ good .1 .0) refl
+        stores Counter.Taken good-tag good 0 0 refl (tt, typed 𝓤 H A W (raisedBy Counter.Taken h) good .1 .0) refl
     matched Counter.Okay good-tag good =
         switches-on ! (load ! (from ! (vrt ! refl (fld ! refl (stop !)))) (look-tag ! 8 (whole !))) $ exec ! C Λ E (sets 1) (Then Counter.Okay) $
-        stores Counter.Okay good-tag good 1 8 refl (tt, typed (raisedBy Counter.Okay h) _ good .1 .1 .0) refl
+        stores Counter.Okay good-tag good 1 8 refl (tt, typed 𝓤 H A W (raisedBy Counter.Okay h) good .1 .1 .0) refl
     matched Counter.Error good-tag good =
         switches-on ! (load ! (from ! (vrt ! refl (fld ! refl (stop !)))) (look-tag ! 8 (whole !))) $ exec ! C Λ E (sets 2) (Then Counter.Error) $
-        stores Counter.Error good-tag good 2 16 refl (tt, typed (raisedBy Counter.Error h) _ good .1 .1 .1 .0) refl
+        stores Counter.Error good-tag good 2 16 refl (tt, typed 𝓤 H A W (raisedBy Counter.Error h) good .1 .1 .1 .0) refl
     matched Counter.NotSupported good-tag good =
         switches-on ! (load ! (from ! (vrt ! refl (fld ! refl (stop !)))) (look-tag ! 8 (whole !))) $ exec ! C Λ E (sets 3) (Then Counter.NotSupported) $
-        stores Counter.NotSupported good-tag good 3 24 refl (tt, typed (raisedBy Counter.NotSupported h) _ good .1 .1 .1 .1 .0) refl
+        stores Counter.NotSupported good-tag good 3 24 refl (tt, typed 𝓤 H A W (raisedBy Counter.NotSupported h) good .1 .1 .1 .1 .0) refl
     matched Counter.Nothing good-tag good =
         switches-on ! (load ! (from ! (vrt ! refl (fld ! refl (stop !)))) (look-tag ! 8 (whole !))) $ exec ! C Λ E skip (Then Counter.Nothing) $
         skips ! $ exec ! C Λ E mir.t-4 (atRet E (Post Counter.Nothing)) $ leaves Counter.Nothing good-tag good
 
   module _ (C : Calls 𝓤 H) (Λ : Loops 𝓤 H) (fm : FmC 𝓤 H (W .laws) C) (known : Triple 𝓤 (C #counters·record·raised) (Raised 𝓤 H A at-mem run)) where
-    -- what `raised` returned is the record that its contract names
-    spelled : (c r : Counters) (v : Val) → r ≡ c → Is R.the-row r (v ∷ []) → v ≡ val c
-    spelled c r v e is = ap only (LL.tells R.the-type R′.the-laws r (v ∷ []) is) ∙ ap val e
-
-    good : (c r : Counters) (v : Val) → r ≡ c → Is R.the-row r (v ∷ []) → Good c
-    good c r v e is = subst Good e (subst (Is R.the-row r) (LL.tells R.the-type R′.the-laws r (v ∷ []) is) is)
-
     walk : (which : Counter) → GoodTag which → ent 𝓤 (onEntry 𝓤 H A raise.signature (κ, tt) (q, tt) (x which) (at which)) (WpFn 𝓤 H C Λ code.function (vptr b o ∷ tag which ∷ []) (Post which))
     walk which good-tag =
         qed W ((‵ (flft κ q) ⊛ ‵ ftrue) ∷ ‵ (owns (MutRef (named 0) κ R.the-row ∷ N.the-row ∷ []) (x which) (at which)) ∷ []) ∵ enter ! C Λ code.function (vptr b o ∷ tag which ∷ []) _ $
         alloc1 ! (λ l₀. alloc1 ! (λ l₁. alloc1 ! (λ l₂. alloc1 ! (λ l₃. alloc1 ! (λ l₄. alloc0 ! $ params1 ! $
-        pass1 ! (init ! 6 refl (tt, tt)) $ pass1 ! (init ! 4 refl (EL.lawful N.the-type N′.the-laws 𝓤 H A W tt .typed which _ good-tag .0)) $ pass0 ! $
+        pass1 ! (init ! 6 refl (tt, tt)) $ pass1 ! (init ! 4 refl (typed-tag 𝓤 H A W which good-tag)) $ pass0 ! $
         -- [_4; …; _3; …; _2; …; _1; …; _0; …; the token and true; what is owned]
-        move ! (11 ∷ []) $ fsplit ! $ fsplit3 ! $ drop ! $ move ! (2 ∷ []) $ drop ! $ move ! (12 ∷ []) $ split ! $ move ! (1 ∷ []) $ drop ! $ move ! (1 ∷ 2 ∷ 0 ∷ []) $
-        -- [obs; the borrow; the token; the locals]
-        opens ! tt R.the-row {h = h} b o (λ vs. spelt ! R.the-row (Is R.the-row) (shows 𝓤 H A R.the-row) (LL.vals R.the-type R′.the-laws) (LL.tells R.the-type R′.the-laws) fullShare h vs b o $
-        move ! (1 ∷ []) $ facts ! R.the-row (Is R.the-row) (shows 𝓤 H A R.the-row) h (val h ∷ []) (λ was.
+        move ! (11 ∷ []) $ fsplit ! $ move ! (1 ∷ []) $ drop ! $ move ! (11 ∷ []) $ split ! $ move ! (1 ∷ []) $ drop ! $ move ! (1 ∷ []) $
+        -- [the record; its token; the locals]
+        opened ! tt h b o (λ was.
         -- [the record's cell; the open borrow; obs; auth; _4; …; _3; …; _2; …; _1; …; _0; …]
-        assigns ! (of-opd ! (load ! (from ! (hop ! (look ! 10 refl) (stop !))) (look-raw ! 0 refl))) (from ! (stop !)) (init ! 4 refl (typed h (val h) was)) $
+        assigns ! (of-opd ! (load ! (from ! (hop ! (look ! 10 refl) (stop !))) (look-raw ! 0 refl))) (from ! (stop !)) (init ! 4 refl (typed 𝓤 H A W h was)) $
         use0 W (raw (Raised 𝓤 H A at-mem run .pre (to-raised which))) (goes-raised which was good-tag) $
-        calls-at ! fm (Raised 𝓤 H A at-mem run) known (to-raised which) (and-then ! (load ! (from ! (stop !)) (look ! 5 refl)) (and-then ! (load ! (from ! (stop !)) (look ! 9 refl)) (no-more !))) (λ w.
-        use1 W (later (some (λ (r : Counters). (‵ ftrue ⊛ ‵ (R.the-row .own r (w ∷ []))) ⊛ raw (ensured 𝓤 H A raised.ended (raised.clauses 𝓤 H A at-mem run) tt (h, (which, tt)) tt r)))) (id⊢ 𝓤 _) $ await ! tt $ pick ! (λ r.
-        split ! $ move ! (1 ∷ []) $ use1 W (raw (fact 𝓤 (r ≡ raisedBy which h))) (gave which r) $ heard ! (r ≡ raisedBy which h) (λ e. split ! $ drop ! $
-        facts ! R.the-row (Is R.the-row) (shows 𝓤 H A R.the-row) r (w ∷ []) (λ is.
-        land ! (from ! (stop !)) (init ! 6 refl (typed r w is)) $ rewrite ! 6 (λ (u : Val). ‵ (fat fullShare R′.mir l₃ 0 u)) (spelled (raisedBy which h) r w e is) refl $
-        first ! $ matched C Λ l₀ l₁ l₂ l₃ l₄ which good-tag (good (raisedBy which h) r w e is))))))))))))
+        gives ! fm (Raised 𝓤 H A at-mem run) known (to-raised which) (and-then ! (load ! (from ! (stop !)) (look ! 5 refl)) (and-then ! (load ! (from ! (stop !)) (look ! 9 refl)) (no-more !)))
+        R.the-row val (LL.tells R.the-type R′.the-laws) (‵ ftrue) (ensured 𝓤 H A raised.ended (raised.clauses 𝓤 H A at-mem run) tt (h, (which, tt)) tt) (raisedBy which h) (λ w. id⊢ 𝓤 _) (gave which) (λ good.
+        drop ! $ land ! (from ! (stop !)) (init ! 6 refl (typed 𝓤 H A W (raisedBy which h) good)) $ first ! $ matched C Λ l₀ l₁ l₂ l₃ l₄ which good-tag good)))))))
 
 module _ {M : Type 1} (𝓤 : URA M) (H : Heap 𝓤) (A : Atoms 𝓤) (W : Given 𝓤 H A) (mem : Memory → SProp 𝓤) (run : Routine → Fun 𝓤) where
   raise-walks : (C : Calls 𝓤 H) (Λ : Loops 𝓤 H) → FmC 𝓤 H (W .laws) C → Triple 𝓤 (C #counters·record·raised) (Raised 𝓤 H A mem run)

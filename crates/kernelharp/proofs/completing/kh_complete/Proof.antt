@@ -2,7 +2,10 @@
 use borrow.Author.Needs.{needs}
 use mir.Syntax.{w32}
 use mir.ValLaws.{toZ-ofZ}
-use Rattle.kernelharp.proofs.Returns.{complete-returned}
+use Rattle.model.specs.Answers.{doneLeft}
+use Rattle.model.specs.Complete.{theOne, ofOne}
+use Rattle.model.specs.Turn.{tagId, serialOf}
+use Rattle.kernelharp.proofs.Returns.{list-returned}
 use Rattle.kernelharp.proofs.completing.kh_complete.Statement.{statement}
 use Rattle.kernelharp.proofs.completing.kh_complete.Tie as tie
 
@@ -21,7 +24,8 @@ returns c =
     let start = w .before .before .before .before in
     let a = start .args in
     let p = rw (toZ-ofZ w32 (a .result) (start .fits .result)) at (w .complete .ensures) in
-    complete-returned (a .memory .now) (a .rings .now) (a .port) (a .tag) (a .serial) (a .result) (a .answer .now) _ _ _ _ _ p (c .put-completed .ensures)
+    list-returned doneLeft (a .memory .now) (a .rings .now) (a .port) (theOne (tagId (a .tag)) (serialOf (a .serial)) (a .result)) (a .answer .now)
+    (record { rings = _; answer = ofOne (w .complete .result) }) _ _ _ p (c .put-completed .ensures)
 
 pub kh-complete-spec : {M : Type 1} → statement M
 kh-complete-spec =

@@ -10,21 +10,22 @@ use prog.Wp.{Heap, Calls, Loops}
 use ghost.Atoms.{Atoms}
 use contract.Monad.{Fun}
 use contract.Running.{givenOf, tables, tablesOf}
-use types.Kit.{Given, _$_, _∵_, !, qed, by, move, keep}
-use types.Run.{look, init, forget, stop, hop, from, load, addr, unit-lit, of-opd, and-then, no-more, assigns, land, returns, enter, alloc1, alloc0, params1, pass1, pass0, free1, free0}
+use types.Kit.{Given, _$_, _∵_, !, qed, move}
+use types.Run.{look, init, stop, hop, from, load, addr, unit-lit, of-opd, and-then, no-more, assigns, land, returns, enter, alloc1, alloc0, params1, pass1, pass0}
 use sound.WpLaws.{FmC, fmOf}
 use denote.Ref.{now}
 use denote.Triple.Spec.{tripleOf}
 use denote.Triple.Statement.{Triple}
 use denote.Triple.Table.{entered, cited}
 use Rattle.model.specs.Counters.{doneIn, doneMetered}
+use Rattle.counters.proofs.Lent.{typed-tag}
 use Rattle.counters.proofs.raise.Symbol as raise-def
 use Rattle.counters.proofs.raise.Symbol.{name as #counters·raise}
 use Rattle.counters.proofs.raise.Met as raise-thm
 use Rattle.counters.proofs.done_counter.Symbol as done-def
 use Rattle.counters.proofs.done_counter.Symbol.{name as #counters·done-counter}
 use Rattle.counters.proofs.done_counter.Met as done-thm
-use Rattle.kernelharp.proofs.Walks.{Naming, Raise, Has, Walk, exits, names, raises, typed, meets}
+use Rattle.kernelharp.proofs.Walks.{Naming, Raise, Has, Walk, leaves, names, raises, meets}
 use Rattle.kernelharp.proofs.metering.kh_meter_completion.Key.{name as #kernelharp·kh-meter-completion}
 use Rattle.kernelharp.proofs.metering.kh_meter_completion as f
 use Rattle.kernelharp.proofs.metering.kh_meter_completion.Statement as stated
@@ -40,15 +41,12 @@ module _ {M : Type 1} (𝓤 : URA M) (H : Heap 𝓤) (A : Atoms 𝓤) (W : Given
       -- [the answer's token; the answer; the record; its token; _6; …; _5; …; _4; …; _3; …; _2; …; _1; …; _0; …]
       assigns ! (addr ! (from ! (hop ! (look ! 14 refl) (stop !)))) (from ! (stop !)) (init ! 6 refl (tt, tt)) $
       names ! fm 4 doneIn known-done number fits s (λ i j. and-then ! (load ! (from ! (stop !)) (look ! 12 refl)) (and-then ! (load ! (from ! (stop !)) (look ! 10 refl)) (no-more !))) (λ good.
-      land ! (from ! (stop !)) (init ! 4 refl (typed 𝓤 H A W (doneIn number (now s)) good)) $ move ! (2 ∷ 3 ∷ []) $
+      land ! (from ! (stop !)) (init ! 4 refl (typed-tag 𝓤 H A W (doneIn number (now s)) good)) $ move ! (2 ∷ 3 ∷ []) $
       -- [the record; its token; the answer's token; the answer; the locals]
       raises ! fm mem run known-raise r (now r) (doneIn number (now s)) good (λ i j. and-then ! (load ! (from ! (stop !)) (look ! 6 refl)) (and-then ! (load ! (from ! (stop !)) (look ! 4 refl)) (no-more !))) $
       land ! (from ! (stop !)) (init ! 8 refl (tt, tt)) $
       assigns ! (of-opd ! (unit-lit !)) (from ! (stop !)) (init ! 16 refl (tt, tt)) $
-      returns ! (look ! 16 refl) $ forget ! 4 refl $ forget ! 6 refl $ forget ! 8 refl $ forget ! 10 refl $ forget ! 12 refl $ forget ! 14 refl $ forget ! 16 refl $
-      move ! (16 ∷ 17 ∷ []) $ free1 ! $ move ! (14 ∷ 15 ∷ []) $ free1 ! $ move ! (12 ∷ 13 ∷ []) $ free1 ! $ move ! (10 ∷ 11 ∷ []) $ free1 ! $ move ! (8 ∷ 9 ∷ []) $ free1 ! $
-      move ! (6 ∷ 7 ∷ []) $ free1 ! $ move ! (4 ∷ 5 ∷ []) $ free1 ! $ free0 ! $
-      keep ! (2 ∷ 3 ∷ 0 ∷ 1 ∷ []) $ by ! (exits 𝓤 H A 4 doneMetered κ κ′ q q′ r number s W fits)))))))))
+      returns ! (look ! 16 refl) $ move ! (2 ∷ 3 ∷ []) $ leaves 𝓤 H A 4 doneMetered κ κ′ q q′ r number s W fits _ (_ ∷ _ ∷ _ ∷ _ ∷ _ ∷ _ ∷ _ ∷ [])))))))))
 
 pub kh-meter-completion-spec : {M : Type 1} → stated.statement M
 unfolding code.routine tablesOf

@@ -10,14 +10,15 @@ use prog.Wp.{Heap, Calls, Loops}
 use ghost.Atoms.{Atoms}
 use contract.Monad.{Fun}
 use contract.Running.{givenOf, tables, tablesOf}
-use types.Kit.{Given, _$_, _∵_, !, qed, by, move, keep}
-use types.Run.{look, init, store, forget, stop, hop, from, load, addr, unit-lit, of-opd, and-then, no-more, assigns, land, returns, enter, alloc1, alloc0, params1, pass1, pass0, free1, free0}
+use types.Kit.{Given, _$_, _∵_, !, qed, move}
+use types.Run.{look, init, store, stop, hop, from, load, addr, unit-lit, of-opd, and-then, no-more, assigns, land, returns, enter, alloc1, alloc0, params1, pass1, pass0}
 use sound.WpLaws.{FmC, fmOf}
 use denote.Ref.{now}
 use denote.Triple.Spec.{tripleOf}
 use denote.Triple.Statement.{Triple}
 use denote.Triple.Table.{entered, cited}
 use Rattle.model.specs.Counters.{takenIn, statusIn, raisedBy, turnMetered}
+use Rattle.counters.proofs.Lent.{typed-tag}
 use Rattle.counters.proofs.raise.Symbol as raise-def
 use Rattle.counters.proofs.raise.Symbol.{name as #counters·raise}
 use Rattle.counters.proofs.raise.Met as raise-thm
@@ -27,7 +28,7 @@ use Rattle.counters.proofs.status_counter.Met as status-thm
 use Rattle.counters.proofs.taken_counter.Symbol as taken-def
 use Rattle.counters.proofs.taken_counter.Symbol.{name as #counters·taken-counter}
 use Rattle.counters.proofs.taken_counter.Met as taken-thm
-use Rattle.kernelharp.proofs.Walks.{Naming, Raise, Has, Walk, exits, names, raises, typed, meets}
+use Rattle.kernelharp.proofs.Walks.{Naming, Raise, Has, Walk, leaves, names, raises, meets}
 use Rattle.kernelharp.proofs.metering.kh_meter_turn.Key.{name as #kernelharp·kh-meter-turn}
 use Rattle.kernelharp.proofs.metering.kh_meter_turn as f
 use Rattle.kernelharp.proofs.metering.kh_meter_turn.Statement as stated
@@ -43,22 +44,19 @@ module _ {M : Type 1} (𝓤 : URA M) (H : Heap 𝓤) (A : Atoms 𝓤) (W : Given
       -- [the answer's token; the answer; the record; its token; _7; …; _6; …; _5; …; _4; …; _3; …; _2; …; _1; …; _0; …]
       assigns ! (addr ! (from ! (hop ! (look ! 16 refl) (stop !)))) (from ! (stop !)) (init ! 8 refl (tt, tt)) $
       names ! fm 64 takenIn known-taken number fits s (λ i j. and-then ! (load ! (from ! (stop !)) (look ! 14 refl)) (and-then ! (load ! (from ! (stop !)) (look ! 12 refl)) (no-more !))) (λ good.
-      land ! (from ! (stop !)) (init ! 6 refl (typed 𝓤 H A W (takenIn number (now s)) good)) $ move ! (2 ∷ 3 ∷ []) $
+      land ! (from ! (stop !)) (init ! 6 refl (typed-tag 𝓤 H A W (takenIn number (now s)) good)) $ move ! (2 ∷ 3 ∷ []) $
       -- [the record; its token; the answer's token; the answer; the locals]
       raises ! fm mem run known-raise r (now r) (takenIn number (now s)) good (λ i j. and-then ! (load ! (from ! (stop !)) (look ! 8 refl)) (and-then ! (load ! (from ! (stop !)) (look ! 6 refl)) (no-more !))) $
       land ! (from ! (stop !)) (init ! 10 refl (tt, tt)) $
       -- the same again, with _7 for the record, and _6 and _4 written over
       assigns ! (addr ! (from ! (hop ! (look ! 16 refl) (stop !)))) (from ! (stop !)) (init ! 4 refl (tt, tt)) $ move ! (2 ∷ 3 ∷ []) $
       names ! fm 64 statusIn known-status number fits s (λ i j. and-then ! (load ! (from ! (stop !)) (look ! 14 refl)) (and-then ! (load ! (from ! (stop !)) (look ! 12 refl)) (no-more !))) (λ good′.
-      land ! (from ! (stop !)) (store ! 6 refl (typed 𝓤 H A W (statusIn number (now s)) good′)) $ move ! (2 ∷ 3 ∷ []) $
+      land ! (from ! (stop !)) (store ! 6 refl (typed-tag 𝓤 H A W (statusIn number (now s)) good′)) $ move ! (2 ∷ 3 ∷ []) $
       raises ! fm mem run known-raise r (raisedBy (takenIn number (now s)) (now r)) (statusIn number (now s)) good′
       (λ i j. and-then ! (load ! (from ! (stop !)) (look ! 4 refl)) (and-then ! (load ! (from ! (stop !)) (look ! 6 refl)) (no-more !))) $
       land ! (from ! (stop !)) (store ! 10 refl (tt, tt)) $
       assigns ! (of-opd ! (unit-lit !)) (from ! (stop !)) (init ! 18 refl (tt, tt)) $
-      returns ! (look ! 18 refl) $ forget ! 4 refl $ forget ! 6 refl $ forget ! 8 refl $ forget ! 10 refl $ forget ! 12 refl $ forget ! 14 refl $ forget ! 16 refl $ forget ! 18 refl $
-      move ! (18 ∷ 19 ∷ []) $ free1 ! $ move ! (16 ∷ 17 ∷ []) $ free1 ! $ move ! (14 ∷ 15 ∷ []) $ free1 ! $ move ! (12 ∷ 13 ∷ []) $ free1 ! $ move ! (10 ∷ 11 ∷ []) $ free1 ! $ move ! (8 ∷ 9 ∷ []) $ free1 ! $
-      move ! (6 ∷ 7 ∷ []) $ free1 ! $ move ! (4 ∷ 5 ∷ []) $ free1 ! $ free0 ! $
-      keep ! (2 ∷ 3 ∷ 0 ∷ 1 ∷ []) $ by ! (exits 𝓤 H A 64 turnMetered κ κ′ q q′ r number s W fits)))))))))))
+      returns ! (look ! 18 refl) $ move ! (2 ∷ 3 ∷ []) $ leaves 𝓤 H A 64 turnMetered κ κ′ q q′ r number s W fits _ (_ ∷ _ ∷ _ ∷ _ ∷ _ ∷ _ ∷ _ ∷ _ ∷ [])))))))))))
 
 pub kh-meter-turn-spec : {M : Type 1} → stated.statement M
 unfolding code.routine tablesOf

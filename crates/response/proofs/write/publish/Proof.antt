@@ -1,14 +1,16 @@
 -- `response::write::publish` meets its contract: rsp_event lies behind rsp_prod, so the store leaves it as it was. Assumes nothing.
 use borrow.Author.Needs.{needs}
 use native.Mathlib.Omega.{arith}
+use mathlib.Core.Path.{sym}
 use Rattle.wire.proofs.LittleEndian.{load-store-above}
 use Rattle.model.specs.Ring.{rspProdAt, rspEventAt, rspEvent, setRspProd}
-use Rattle.model.specs.Port.{after}
+use Rattle.model.specs.Port.{further}
+use Rattle.response.proofs.Responses.{tells-few}
 use Rattle.response.proofs.write.publish.Statement.{statement}
 use Rattle.response.proofs.write.publish.Tie as tie
 
-next-index-requires : tie.Need-next-index-requires
-next-index-requires c κs = search needs
+index-after-requires : tie.Need-index-after-requires
+index-after-requires c κs = search needs
 
 put-rsp-prod-requires : tie.Need-put-rsp-prod-requires
 put-rsp-prod-requires c κs = search needs
@@ -16,19 +18,35 @@ put-rsp-prod-requires c κs = search needs
 u32-at-requires : tie.Need-u32-at-requires
 u32-at-requires c κs = search needs
 
+distance-requires : tie.Need-distance-requires
+distance-requires c κs = search needs
+
 same-length : tie.Need-same-length
 same-length c = search needs
 
 returns : tie.Need-returns
 unfolding rspEvent setRspProd
 returns c =
-    let a = c .before .before .before .before .before .before .before .before .args in
-    let stored = c .before .before .before .before .put-rsp-prod .ensures in
-    let next = c .before .before .before .before .before .before .next-index .ensures in
-    let event = load-store-above 4 4 (a .page .now) rspProdAt (after (a .produced)) rspEventAt (omega arith) in
-    record { page = rw (stored, next); notify = rw (c .u32-at .ensures, stored, next, event) }
+    let read = c .before in
+    let stored = read .before .before .before .before in
+    let next = stored .before .before in
+    let start = next .before .before in
+    let a = start .args in
+    let event = load-store-above 4 4 (a .page .now) rspProdAt (further (a .produced) (a .n)) rspEventAt (omega arith) in
+    record {
+      page = rw (stored .put-rsp-prod .ensures, next .index-after .ensures);
+      notify =
+          rw (c .distance .ensures, read .u32-at .ensures, stored .put-rsp-prod .ensures, next .index-after .ensures, event)
+          (sym (tells-few (a .produced) (a .n) _ (start .fits .produced .fits) (start .fits .n .fits)));
+    }
 
 pub publish-spec : {M : Type 1} → statement M
 publish-spec =
     tie.close
-    (tie.spec next-index-requires put-rsp-prod-requires u32-at-requires same-length returns)
+    (tie.spec
+    index-after-requires
+    put-rsp-prod-requires
+    u32-at-requires
+    distance-requires
+    same-length
+    returns)

@@ -2,7 +2,7 @@
 use borrow.Author.Needs.{needs}
 use native.Mathlib.Omega.{arith}
 use Rattle.model.specs.Ring.{ringFor, slotAt}
-use Rattle.model.specs.Turn.{responded}
+use Rattle.model.specs.Turn.{written, respondedAll, responded}
 use Rattle.model.proofs.Ring.{fits-for, header-room, slotAt-header}
 use Rattle.response.proofs.Responses.{event-response}
 use Rattle.response.proofs.write.write_response.Statement.{statement}
@@ -20,7 +20,7 @@ same-length : tie.Need-same-length
 same-length c = search needs
 
 returns : tie.Need-returns
-unfolding ringFor responded
+unfolding ringFor responded respondedAll written
 returns c =
     let published = c .before .before in
     let put = published .before .before .before .before in

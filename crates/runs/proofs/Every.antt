@@ -1,38 +1,35 @@
 -- Every call has an outcome that keeps its promise: each change that an event makes of the backend can be made of memory. Assumes nothing but that lent bytes are
 -- bytes.
-use mathlib.Core.Path.{_≡_, refl}
-use mathlib.Core.Bool.{not, _&&_}
-use mathlib.Core.List.{List, []}
-use Prim.Native.Nat.{ℕ, _+_, _^_, _<_}
+use mathlib.Core.Path.{_≡_, refl, sym}
+use mathlib.Core.Bool.{false, not, _&&_}
+use mathlib.Core.List.{List, [], _∷_}
+use Prim.Native.Nat.{ℕ, _+_, _^_, _≤_, _<_}
 use native.Mathlib.Nat.{mod-lt}
 use native.Mathlib.Omega.{arith}
 use lib.Dec.{ltb}
-use lib.IntN.{ℤ}
-use Rattle.model.specs.Backend.{Backend, viewOf, withPort, withTag, withPointer, brokenPort, startedPort, answeredPort, finishedPort, does, next}
+use Rattle.model.specs.Backend.{Backend, viewOf, withPort, withTag, withPointer, brokenPort, startedPort, answeredPort, finishedPort, does, doesAll, next}
 use Rattle.model.specs.Buffers.{ports, grantsOf, areRings, areGrants}
-use Rattle.model.specs.Calls.{Call, Open, Close, Turn, Complete, TurnEffect, Effect}
-use Rattle.model.specs.Complete.{expectedOf}
-use Rattle.model.specs.Deeds.{portAfter, paramsIn, deeds}
-use Rattle.model.specs.Demand.{IsBytes, LendsBytes}
+use Rattle.model.specs.Calls.{Call, Open, Close, Turn, Complete, TurnEffect, CompleteAnswer, noneDone, allDone, Effect}
+use Rattle.model.specs.Complete.{Completion, completionsIn, expectedOf}
+use Rattle.model.specs.Deeds.{portAfter, paramsIn, finishings, deeds}
+use Rattle.model.specs.Demand.{All, IsBytes, LendsBytes}
 use Rattle.model.specs.NodeSheet.{sheetOf}
 use Rattle.model.specs.Plan.{verdictOf}
-use Rattle.model.specs.Port.{View, after, inFlightOf, closedPort, openPort, zeroTag}
-use Rattle.model.specs.Ring.{ringFor, ringOf}
-use Rattle.model.specs.Rules.{dueTurn, effectDue}
+use Rattle.model.specs.Port.{View, Holder, after, inFlightOf, closedPort, openPort, zeroTag}
+use Rattle.model.specs.Ring.{Ring, ringFor, ringOf}
+use Rattle.model.specs.Rules.{dueTurn, namesNone, anyNamesNone, effectDue}
 use Rattle.model.specs.Turn.{ringAt, serialOf, pendingAt, requestAt, idle, settled, overran, servedBy, passedOver, turned}
-use Rattle.model.specs.declared.Completed.{Completed}
 use Rattle.model.specs.declared.Pending.{Pending}
 use Rattle.model.specs.declared.Port.{Port}
 use Rattle.model.specs.declared.PortId.{PortId}
 use Rattle.model.specs.declared.Reply.{Reply}
-use Rattle.model.specs.declared.Serial.{Serial}
 use Rattle.model.specs.declared.Status.{Status}
 use Rattle.model.specs.declared.Tag.{Tag}
-use Rattle.model.specs.declared.TagId.{TagId}
 use Rattle.model.specs.declared.Turned.{Turned}
 use Rattle.model.specs.declared.Verdict.{Verdict}
-use Rattle.model.proofs.Base.{by-cond}
-use Rattle.model.proofs.DueFacts.{chosen-lt, Started, Finished, OpenFacts, CloseFacts, TurnFacts, CompleteFacts, facts, names-one, waits-room}
+use Rattle.model.proofs.Base.{by-cond, or-left, or-right}
+use Rattle.model.proofs.Completions.{names-one}
+use Rattle.model.proofs.DueFacts.{chosen-lt, Started, OpenFacts, CloseFacts, TurnFacts, CompleteFacts, facts, waits-room}
 use Rattle.model.proofs.Page.{request-fits, slot-bytes}
 use Rattle.model.proofs.Ring.{fits}
 use Rattle.model.proofs.View.{view-consumed}
@@ -42,8 +39,9 @@ use Rattle.memory.specs.Backend.{backendOf, Exact, Becomes}
 use Rattle.memory.specs.Layout.{tags}
 use Rattle.memory.specs.Promise.{Promised}
 use Rattle.memory.proofs.Backend.{backend-ranged, size-tags}
-use Rattle.memory.proofs.Changes.{unchanged, stays, Some, some-port, some-tag, some-pointer, some-then, promised}
+use Rattle.memory.proofs.Changes.{unchanged, stays, restated, Some, some-port, some-tag, some-pointer, some-then, promised}
 use Rattle.memory.proofs.Lens.{Ranged, RangedTag}
+use Rattle.backend.proofs.Completions.{does-pointer, pointer-kept}
 
 -- ---- a plan's expected result fits its word
 
@@ -130,10 +128,6 @@ module _ (m : List ℕ) (x : Exact m) where
   unfolding requestAt
   operation-fits rings k y = request-fits _ _ (slot-bytes (ringAt (viewOf (backendOf m)) k) rings k _ y) .1
 
-  -- a completed request's tag is one of its ring's
-  named-lt : (rings pages : List ℕ) (p : PortId) (t : TagId) (s : Serial) (z : Status) → Finished (viewOf (backendOf m)) rings pages (p .0) t s z → t .0 < tags
-  named-lt rings pages p t s z f = omega (arith, names-one _ t s _ (f .named) .small, size-tags (viewOf (backendOf m) .params (p .0)))
-
   index-lt : (i : ℕ) → after i < 2 ^ 32
   index-lt i = mod-lt (i + 1) (omega arith)
 
@@ -173,18 +167,51 @@ module _ (m : List ℕ) (x : Exact m) where
       (record { consumed = index-lt (q .consumed); produced = backend-ranged m k .produced }))
       k) (λ z. let w : _≡_ {A = ℕ} 0 1 = cc in omega arith)
 
-  leaves-complete : (rings pages : List ℕ) (p : PortId) (t : TagId) (s : Serial) (result : ℤ) (r : Completed)
-      → CompleteFacts (viewOf (backendOf m)) rings pages p t s r
-      → Leaves m (Complete rings p t s result) (record { rings = pages; answer = r })
-  unfolding next does withPort withTag withPointer
-  leaves-complete rings pages p t s result (Completed.Refused i) f = none (record { rings = pages; answer = Completed.Refused i }) (unchanged m)
-  leaves-complete rings pages p t s result (Completed.Done q z b) f =
-      let k = p .0 in
-      let o = backendOf m .port k in
-      one-deed (record { rings = pages; answer = Completed.Done q z b })
-      (tagged k (t .0) (f .small) (named-lt rings pages p t s z f) zeroTag (record { operation = omega arith; serial = omega arith; expected = omega arith })
-      (finishedPort o (t .0)) (record { consumed = backend-ranged m k .consumed; produced = index-lt (o .produced) })) (λ e.
-      let w : _≡_ {A = ℕ} 0 1 = cc in omega arith)
+-- the tags that entries name are those of the ring
+tags-lt : (g : Ring) (held : ℕ → Holder) (cs : List Completion) → g .size ≤ tags → anyNamesNone g held cs ≡ false → All (λ (c : Completion). c .tag .0 < tags) cs
+unfolding anyNamesNone
+tags-lt g held [] l e = tt
+tags-lt g held (c ∷ cs) l e =
+    (omega (arith, names-one g (c .tag) (c .serial) _ (or-left _ _ e) .small), tags-lt g held cs l (or-right (namesNone g (c .tag) (c .serial) (held (c .tag .0))) _ e))
+
+-- the deeds of a list, one after another
+some-finishings : (m : List ℕ) → Exact m → (k : ℕ) → k < ports → (left : List ℕ) (cs : List Completion) (zs : List Status) → All (λ (c : Completion). c .tag .0 < tags) cs
+    → Some m (doesAll (backendOf m) (finishings left k cs zs))
+unfolding does
+some-finishings m x k h left [] zs l = record { left = m; becomes = unchanged m }
+some-finishings m x k h left (c ∷ cs) [] l = record { left = m; becomes = unchanged m }
+some-finishings m x k h left (c ∷ cs) (z ∷ zs) l =
+    let o = backendOf m .port k in
+    some-then (λ (b : Backend). doesAll b (finishings left k cs zs)) x
+    (tagged m x k (c .tag .0) h (l .0) zeroTag (record { operation = omega arith; serial = omega arith; expected = omega arith })
+    (finishedPort o (c .tag .0)) (record { consumed = backend-ranged m k .consumed; produced = index-lt m x (o .produced) }))
+    (λ n e. some-finishings n e k h left cs zs (l .1))
+
+leaves-complete : (m : List ℕ) → Exact m → (rings pages : List ℕ) (p : PortId) (entries : List ℕ) (r : CompleteAnswer)
+    → CompleteFacts (viewOf (backendOf m)) rings pages p (completionsIn entries) r
+    → Leaves m (Complete rings p entries) (record { rings = pages; answer = r })
+unfolding next
+leaves-complete m x rings pages p entries (noneDone i) f = none m x (record { rings = pages; answer = noneDone i }) (stays m)
+leaves-complete m x rings pages p entries (allDone q zs b) f = go (completionsIn entries) refl zs refl
+  where
+    v : View
+    v = viewOf (backendOf m)
+
+    cs : List Completion
+    cs = completionsIn entries
+
+    low : All (λ (c : Completion). c .tag .0 < tags) cs
+    low = tags-lt (ringAt v (p .0)) (v .tag (p .0)) cs (size-tags (v .params (p .0))) (f .named)
+
+    go : (l : List Completion) → cs ≡ l → (y : List Status) → zs ≡ y → Leaves m (Complete rings p entries) (record { rings = pages; answer = allDone q zs b })
+    go [] e y w = none m x (record { rings = pages; answer = allDone q zs b }) (rw e (stays m))
+    go (c ∷ l) e [] w = none m x (record { rings = pages; answer = allDone q zs b }) (rw (e, w) (stays m))
+    go (c ∷ l) e (z ∷ y) w =
+        let o = some-finishings m x (p .0) (f .small) pages cs zs low in
+        let kept = pointer-kept _ (backendOf m .pointer) (does-pointer cs zs (backendOf m) (p .0) pages) in
+        one-deed (record { rings = pages; answer = allDone q zs b }) (record { left = o .left; becomes = restated (o .becomes) (sym kept) }) (λ d.
+        let bad = rw (e, w) at d in
+        let u : _≡_ {A = ℕ} 0 1 = cc in omega arith)
 
 -- ---- every call
 
@@ -208,8 +235,8 @@ outcome m x (Turn rings grants words) y =
     let e = effectDue (viewOf (backendOf m)) c in
     let l = leaves-turn m x rings grants words (e .rings) (e .words) (e .answer) y (facts (viewOf (backendOf m)) c) (turn-fits (viewOf (backendOf m)) rings grants words) in
     record { left = l .left; promised = promised m c e (l .left) refl (l .becomes) (l .still) }
-outcome m x (Complete rings p t s result) y =
-    let c = Complete rings p t s result in
+outcome m x (Complete rings p entries) y =
+    let c = Complete rings p entries in
     let e = effectDue (viewOf (backendOf m)) c in
-    let l = leaves-complete m x rings (e .rings) p t s result (e .answer) (facts (viewOf (backendOf m)) c) in
+    let l = leaves-complete m x rings (e .rings) p entries (e .answer) (facts (viewOf (backendOf m)) c) in
     record { left = l .left; promised = promised m c e (l .left) refl (l .becomes) (l .still) }

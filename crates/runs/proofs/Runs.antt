@@ -15,8 +15,8 @@ use Rattle.memory.specs.Promise.{Promised}
 use Rattle.memory.specs.Words.{zeros}
 use Rattle.memory.proofs.Changes.{becomes-exact}
 use Rattle.memory.proofs.Zeros.{backend-zeros, zeros-exact, clean}
-use Rattle.backend.specs.Run.{CodeStep, callIn, CodeRun, codeHistory, codeMemory, CodeHolds, CodeRunOf, CodeTheorem}
-use Rattle.backend.proofs.Every.{outcome}
+use Rattle.runs.specs.Run.{CodeStep, callIn, CodeRun, codeHistory, codeMemory, CodeHolds, CodeRunOf, CodeTheorem}
+use Rattle.runs.proofs.Every.{outcome}
 
 -- ---- of every run
 

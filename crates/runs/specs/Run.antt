@@ -1,4 +1,4 @@
--- Runs of the four calls, and what holds of every one. (`turn`, in a crate of its own, promises this and where in its answer the words stand.) A run is made of
+-- Runs of the four calls, and what holds of every one. (`turn` and, for a list of completions, `complete_many`, in crates of their own, promise this and where in their answers the words stand.) A run is made of
 -- calls, one after another on one memory that nobody else writes, with what each left and answered. Guests may write any ring byte between two calls: each call
 -- carries the bytes that it is lent.
 use mathlib.Core.Path.{_≡_}

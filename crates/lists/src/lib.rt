@@ -1,0 +1,267 @@
+// Completing a list of started requests of one port: all of them, or none. Two passes over the entries: the first reads what they name and writes nothing, the
+// second answers them. rsp_prod is stored once, behind the last response, and rsp_event read once, after that.
+use answers::magnitude;
+use answers::many::MANY_STATUSES;
+use answers::seen;
+use backend::free_tag;
+use layout::ring_bytes;
+use layout::ring_size;
+use memory::WORDS;
+use model::Abi;
+use model::CompletedMany;
+use model::Pages;
+use model::Port;
+use model::PortId;
+use model::State;
+use model::Status;
+use model::buffer::MANY_WORDS;
+use model::buffer::PORTS;
+use model::buffer::RING_SHARE;
+use model::buffer::RINGS_BYTES;
+use model::limit::ENTRY_WORDS;
+use model::limit::MOST_COMPLETIONS;
+use model::refusal::IS_CLOSED;
+use model::refusal::NO_PORT;
+use model::refusal::NOT_BUSY;
+use model::refusal::TOO_MANY;
+use model::refusal::WRONG_LENGTH;
+ghost use mathlib.Core.Path.{_≡_};
+ghost use Prim.Native.Nat.{_*_, _/_, _%_, _<_, _≤_};
+ghost use lib.ListN.{length};
+ghost use Rattle.model.specs.Buffers.{ports};
+ghost use Rattle.model.specs.Calls.{mostCompletions};
+ghost use Rattle.model.specs.Complete.{entryWords, completionsIn};
+ghost use Rattle.model.specs.Ring.{ringFor};
+ghost use Rattle.model.specs.declared.Abi.{Abi};
+ghost use Rattle.memory.specs.Backend.{backendOf};
+ghost use Rattle.memory.specs.Layout.{tags};
+ghost use Rattle.lists.specs.List.{NamesBusy, leftOf, EntryFinished, TagsNamed, RestCleared, AllFinished, AllResponded, ListTaken, ListFinished, ManyPromised};
+ghost use Rattle.backend.specs.Steps.{PortNamed};
+
+// The marks that stay once every entry of a list is done; or one of them names no busy request.
+pub enum Left {
+    Busy(u64),
+    NotNamed,
+}
+
+// Whether tag and serial, as the words of an entry have them, name a request that is busy by these marks.
+fn names_busy(
+    memory: &[u64; WORDS],
+    k: usize,
+    pages: Pages,
+    marks: u64,
+    tag: u64,
+    serial: u64,
+) -> bool
+    requires { ⌜ k < ports ⌝ }
+    ensures { λ r. ⌜ NamesBusy (backendOf (now (memory .entry)) .tag k) pages marks tag serial r ⌝ }
+{
+    if ring_size(pages) as u64 <= tag {
+        return false;
+    }
+    if !marks::is_busy(marks, tag as u32) {
+        return false;
+    }
+    memory::serial_at(memory, k, tag as usize) as u64 == serial
+}
+
+// The first pass. An entry's mark is cleared in a copy of the marks, so that a tag named twice is not busy the second time.
+fn left_busy(memory: &[u64; WORDS], k: usize, pages: Pages, busy: u64, entries: &[u64]) -> Left
+    requires { ⌜ k < ports ⌝ }
+    ensures { λ r. ⌜ ((abi : Abi) → r ≡ leftOf (ringFor abi pages) (backendOf (now (memory .entry)) .tag k) busy (completionsIn (now (entries .entry)))) ⌝ }
+{
+    let n = entries.len() / ENTRY_WORDS;
+    let mut left = busy;
+    let mut i = 0;
+    while i < n {
+        let at = ENTRY_WORDS * i;
+        let tag = entries[at];
+        if !names_busy(memory, k, pages, left, tag, entries[at + 1]) {
+            return Left::NotNamed;
+        }
+        left = marks::clear_mark(left, tag as u32);
+        i += 1;
+    }
+    Left::Busy(left)
+}
+
+// Answers the request of tag t with the response of this index, and zeroes the tag. Reads no ring byte.
+fn finish_entry(
+    memory: &mut [u64; WORDS],
+    page: &mut [u8],
+    k: usize,
+    abi: Abi,
+    pages: Pages,
+    index: u32,
+    t: u32,
+    result: u64,
+) -> Status
+    requires { ⌜ (k < ports) × (t < tags) × (length (now page) ≡ ringFor abi pages .bytes) ⌝ }
+    ensures { λ r. ⌜ EntryFinished (now (memory .entry)) (now (page .entry)) k abi pages index t result (now (page .exit)) r (now (memory .exit)) ⌝ }
+{
+    let x = memory::tag_at(memory, k, t as usize);
+    memory::set_tag(memory, k, t as usize, free_tag());
+    let status = response::word_status(x.expected, result);
+    let pair = x.pair;
+    response::put_response(page, abi, pages, index, pair, status);
+    status
+}
+
+// The second pass: every entry is answered, and its status noted. Reads no ring byte.
+fn finish_all(
+    memory: &mut [u64; WORDS],
+    page: &mut [u8],
+    k: usize,
+    abi: Abi,
+    pages: Pages,
+    produced: u32,
+    entries: &[u64],
+    answer: &mut [u64; MANY_WORDS],
+)
+    requires { ⌜ (k < ports) × (length (now page) ≡ ringFor abi pages .bytes) × (length (now entries) ≤ entryWords * mostCompletions) × TagsNamed (now entries) ⌝ }
+    ensures { λ _. ⌜ AllFinished (now (memory .entry)) (now (page .entry)) k (ringFor abi pages) produced (now (entries .entry)) (now (answer .entry)) (now (page .exit)) (now (answer .exit)) (now (memory .exit)) ⌝ }
+{
+    let n = entries.len() / ENTRY_WORDS;
+    let mut index = produced;
+    let mut i = 0;
+    while i < n {
+        let at = ENTRY_WORDS * i;
+        let status = finish_entry(
+            memory,
+            page,
+            k,
+            abi,
+            pages,
+            index,
+            entries[at] as u32,
+            entries[at + 2],
+        );
+        answer[MANY_STATUSES + i] = magnitude(status);
+        index = ring::next_index(index);
+        i += 1;
+    }
+}
+
+// The same, and published. Reads bytes 12 to 15 of the port's ring, once.
+fn respond_all(
+    memory: &mut [u64; WORDS],
+    page: &mut [u8],
+    k: usize,
+    abi: Abi,
+    pages: Pages,
+    produced: u32,
+    entries: &[u64],
+    answer: &mut [u64; MANY_WORDS],
+) -> bool
+    requires { ⌜ (k < ports) × (length (now page) ≡ ringFor abi pages .bytes) × (0 < length (now entries) / entryWords) × (length (now entries) ≤ entryWords * mostCompletions) × TagsNamed (now entries) ⌝ }
+    ensures { λ r. ⌜ AllResponded (now (memory .entry)) (now (page .entry)) k (ringFor abi pages) produced (now (entries .entry)) (now (answer .entry)) (now (page .exit)) (now (answer .exit)) (now (memory .exit)) r ⌝ }
+{
+    finish_all(memory, page, k, abi, pages, produced, entries, answer);
+    let n = entries.len() / ENTRY_WORDS;
+    response::publish(page, produced, n as u32)
+}
+
+// Zeros for the statuses from the n-th on.
+fn clear_rest(answer: &mut [u64; MANY_WORDS], n: usize)
+    requires { ⌜ n ≤ mostCompletions ⌝ }
+    ensures { λ _. ⌜ RestCleared n (now (answer .entry)) (now (answer .exit)) ⌝ }
+{
+    seen(answer);
+    let mut i = MANY_STATUSES + n;
+    while i < MANY_WORDS {
+        answer[i] = 0;
+        i += 1;
+    }
+}
+
+// Answers a list of some entries that all name busy requests, of port p, and leaves these marks.
+fn finish_list(
+    memory: &mut [u64; WORDS],
+    rings: &mut [u8],
+    port: PortId,
+    p: Port,
+    marks: u64,
+    entries: &[u64],
+    answer: &mut [u64; MANY_WORDS],
+) -> CompletedMany
+    requires { ⌜ ListTaken (backendOf (now memory)) (now rings) port p (now entries) ⌝ }
+    ensures { λ r. ⌜ ListFinished (now (memory .entry)) (now (rings .entry)) port marks (now (entries .entry)) (now (answer .entry)) (now (rings .exit)) r (now (answer .exit)) (now (memory .exit)) ⌝ }
+{
+    let k = port.0 as usize;
+    let n = entries.len() / ENTRY_WORDS;
+    let params = p.params;
+    let abi = params.abi;
+    let pages = params.pages;
+    let base = RING_SHARE * k;
+    let end = base + ring_bytes(pages);
+    let notify = respond_all(
+        memory,
+        &mut rings[base..end],
+        k,
+        abi,
+        pages,
+        p.produced,
+        entries,
+        answer,
+    );
+    clear_rest(answer, n);
+    memory::set_produced(memory, k, ring::index_after(p.produced, n as u32));
+    memory::set_busy_marks(memory, k, marks);
+    CompletedMany::Done(port, notify)
+}
+
+// Completes a list of a port that is open or broken.
+fn complete_listed(
+    memory: &mut [u64; WORDS],
+    rings: &mut [u8],
+    port: PortId,
+    entries: &[u64],
+    answer: &mut [u64; MANY_WORDS],
+) -> CompletedMany
+    requires { ⌜ PortNamed (backendOf (now memory)) (now rings) port × (length (now entries) % entryWords ≡ 0) ⌝ }
+    ensures { λ r. ⌜ ManyPromised (now (memory .entry)) (now (rings .entry)) port (now (entries .entry)) (now (answer .entry)) (now (rings .exit)) r (now (answer .exit)) (now (memory .exit)) ⌝ }
+{
+    if ENTRY_WORDS * MOST_COMPLETIONS < entries.len() {
+        return CompletedMany::Refused(TOO_MANY);
+    }
+    if entries.len() / ENTRY_WORDS == 0 {
+        clear_rest(answer, 0);
+        return CompletedMany::Done(port, false);
+    }
+    let k = port.0 as usize;
+    let p = memory::port_at(memory, k);
+    let params = p.params;
+    let pages = params.pages;
+    let left = left_busy(memory, k, pages, p.busy, entries);
+    match left {
+        Left::NotNamed => CompletedMany::Refused(NOT_BUSY),
+        Left::Busy(marks) => finish_list(memory, rings, port, p, marks, entries, answer),
+    }
+}
+
+// Completes a list of started requests of one port with the host's results. Statuses go into the answer from its fifth word on; the words before them stay.
+pub fn complete_many(
+    memory: &mut [u64; WORDS],
+    rings: &mut [u8],
+    port: PortId,
+    entries: &[u64],
+    answer: &mut [u64; MANY_WORDS],
+) -> CompletedMany
+    ensures { λ r. ⌜ ManyPromised (now (memory .entry)) (now (rings .entry)) port (now (entries .entry)) (now (answer .entry)) (now (rings .exit)) r (now (answer .exit)) (now (memory .exit)) ⌝ }
+{
+    if rings.len() != RINGS_BYTES {
+        return CompletedMany::Refused(WRONG_LENGTH);
+    }
+    if entries.len() % ENTRY_WORDS != 0 {
+        return CompletedMany::Refused(WRONG_LENGTH);
+    }
+    let k = port.0 as usize;
+    if PORTS <= k {
+        return CompletedMany::Refused(NO_PORT);
+    }
+    let state = memory::state(memory, k);
+    match state {
+        State::Closed => CompletedMany::Refused(IS_CLOSED),
+        State::Open | State::Broken => complete_listed(memory, rings, port, entries, answer),
+    }
+}
