@@ -9,7 +9,7 @@ demo: target/staticlib/libkernelharp.a
 test:
 	@bash tests/run
 
-# make bench: times, instructions and memory, against the second program. make test holds two figures of it.
+# make bench: times, instructions and memory, against the second program. make test holds some figures of it.
 .PHONY: bench
 bench: target/staticlib/libkernelharp.a
 	@bash tests/bench

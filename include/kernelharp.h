@@ -5,12 +5,13 @@
  * between calls but the backend memory, the meters and the guest memory. One backend, one thread at a time, and so with
  * a meter and a guest; two backends are two memories and know nothing of each other, and so are two guests.
  *
- * Every call on a backend or a guest returns 0 when it was done, else the number of a refusal: of those that it lists,
- * the first that applies. A refused call changes no byte behind any pointer, `answer` included. No content of a buffer,
- * no length and no number is an error of the caller: each has its refusal or its answer. The caller's part is that each
- * pointer has as many bytes behind it as its length, its type or its array says, that what consists of words (memory,
- * entries, requests, answers, meters) is aligned for uint64_t, and that the buffers of one call don't overlap. Rings,
- * pages, grants and sheets may lie anywhere. A pointer with length 0 may be null.
+ * Every call on a backend or a guest, and kh_join_extents, returns 0 when it was done, else the number of a refusal: of
+ * those that it lists, the first that applies. A refused call changes no byte behind any pointer, `answer` included. No
+ * content of a buffer, no length and no number is an error of the caller: each has its refusal or its answer. The
+ * caller's part is that each pointer has as many bytes behind it as its length, its type or its array says, that what
+ * consists of words (memory, entries, requests, answers, meters, extents, machine frames, runs) is aligned for
+ * uint64_t, and that the buffers of one call don't overlap. Rings, pages, grants and sheets may lie anywhere. A pointer
+ * with length 0 may be null.
  *
  * A call sees the rings as they are at that call. Guests may write them between calls; while a call runs they must not,
  * so a host whose guests can do so lends a copy. The same holds of a guest's page and its backend.
@@ -38,7 +39,7 @@ extern "C" {
  * and the last, and makes no other call when one of them is not the header's: the header and the archive are then not
  * of one release, or not built for the same memory.
  */
-#define KH_VERSION 900 /* 0.9.0 */
+#define KH_VERSION 1000 /* 0.10.0 */
 uint32_t kh_version(void);
 uint32_t kh_memory_words(void);
 uint32_t kh_guest_words(void);
@@ -51,6 +52,7 @@ uint32_t kh_guest_words(void);
 #define KH_TURN_WORDS   64    /* answer of kh_turn */
 #define KH_DONE_WORDS   4     /* answer of kh_complete */
 #define KH_MANY_WORDS   68    /* answer of kh_complete_many */
+#define KH_JOIN_WORDS   1     /* answer of kh_join_extents */
 
 /* Sizes of what a guest lends, see kh_guest. */
 #define KH_GUEST_PAGE_BYTES 4096 /* its ring page */
@@ -138,6 +140,9 @@ enum kh_refusal {
     KH_NOT_BUSY = 6,        /* tag beyond the ring's slots, not busy, or busy with another serial (complete, and of any
                                entry complete_many); a tag that the list names twice (complete_many) */
     KH_TOO_MANY = 7,        /* more entries than KH_ENTRIES (complete_many); comes before 6 */
+    KH_TOO_FEW_FRAMES = 8,  /* fewer machine frames than extents (join_extents) */
+    KH_TOO_FEW_RUNS = 9,    /* fewer records than runs (join_extents) */
+    KH_NO_PLAN = 10,        /* extents that no plan has (join_extents); comes before 8 and 9 */
     KH_SHEET_SHAPE = 11,    /* sheet empty, more than 9 entries, a reserved byte not 0, wrong total length (open) */
     KH_SHEET_NODES = 12,    /* a node 0 or above 9, or no greater than the one before (open) */
     KH_SHEET_TEXT = 13,     /* nodes 1 to 5 and 8: any other text; 6, 7 and 9: no number (open) */
@@ -335,6 +340,40 @@ void kh_meter_turn(kh_meter *meter, uint32_t returned, const uint64_t *answer);
 void kh_meter_completion(kh_meter *meter, uint32_t returned, const uint64_t *answer);
 void kh_meter_many(kh_meter *meter, uint32_t returned, const uint64_t *answer);
 
+/* Sectors of machine frames that follow each other there and on the disk; from sector 7 on into the next frame. */
+typedef struct {
+    uint64_t frame;  /* machine frame that it begins in */
+    uint64_t first;  /* first sector in that frame, 0 to 7 */
+    uint64_t length; /* sectors, in as many frames as it takes */
+    uint64_t sector; /* first sector on the disk */
+} kh_run;
+
+/*
+ * Joins a plan's extents to runs, so that one transfer does for several of them. It has to do with no backend and no
+ * ring, and keeps nothing.
+ *
+ * `extents` has extent_words words, KH_EXTENT_WORDS to a place: what a turn's answer has from KH_TURN_EXTENTS on, in
+ * KH_EXTENTS places (kh_join_plan hands a plan over). A rest that is no whole place is none. `pieces` is the number of
+ * extents, which are in the first places; no other place is looked at. `machine_frames` has the machine frame of each:
+ * number i is that of extent i, whose own frame, a grant reference, is not looked at. More of them may be lent.
+ *
+ * An extent joins the one before where it begins right behind it: in the same machine frame, or where that one ends
+ * with sector 7 and it begins with sector 0 of the frame that has the next number; there is none after 2^64 - 1. A run
+ * goes on as long as the next extent joins: no extent is split, their order is kept, and there are no fewer runs to be
+ * had. The runs are written to the front of `runs`, which has run_count records; the records behind them stay. `answer`
+ * has KH_JOIN_WORDS words: the number of runs, which is 0 for no extents, and at most `pieces`.
+ *
+ * Refusals: 10, 8, 9, each judged of all extents before the next.
+ *
+ * - 10: more extents than places; an extent without sectors, or past sector 7 of its frame, or whose disk sector +
+ *   length is above 2^64 - 1; one that does not begin on the disk where the one before ends. A plan's own extents are
+ *   never refused with it.
+ * - 8: fewer machine frames than extents.
+ * - 9: fewer records than runs. As many records as extents are always enough.
+ */
+uint32_t kh_join_extents(const uint64_t *extents, size_t extent_words, uint64_t pieces, const uint64_t *machine_frames,
+                         size_t frame_count, kh_run *runs, size_t run_count, uint64_t *answer);
+
 /*
  * The guest's half of a ring: it puts requests into a page of the 64-bit layout, and collects their responses. It knows
  * nothing of a backend, and a backend nothing of it; both know the page.
@@ -462,7 +501,7 @@ static inline size_t kh_response_bytes(enum kh_abi abi) {
     return abi == KH_BITS32 ? KH_RESPONSE32_BYTES : KH_RESPONSE_BYTES;
 }
 
-/* A run of sectors in one frame, and where on the disk it goes. */
+/* Some sectors of one frame, and where on the disk they go. */
 typedef struct {
     uint32_t frame;  /* grant reference, below KH_PORT_GRANTS */
     uint32_t first;  /* first sector in the frame, 0 to 7 */
@@ -551,6 +590,24 @@ static inline kh_plan kh_read_plan(const uint64_t *answer) {
     return plan;
 }
 
+/*
+ * kh_join_extents of a plan that was read: with a machine frame for each of its extents, and KH_EXTENTS records, it is
+ * not refused.
+ */
+static inline uint32_t kh_join_plan(const kh_plan *plan, const uint64_t *machine_frames, size_t frame_count,
+                                    kh_run *runs, size_t run_count, uint64_t *answer) {
+    uint64_t words[KH_EXTENTS * KH_EXTENT_WORDS];
+    size_t i;
+    for (i = 0; i < KH_EXTENTS; i++) {
+        words[KH_EXTENT_WORDS * i + KH_EXTENT_FRAME] = plan->extents[i].frame;
+        words[KH_EXTENT_WORDS * i + KH_EXTENT_FIRST] = plan->extents[i].first;
+        words[KH_EXTENT_WORDS * i + KH_EXTENT_LENGTH] = plan->extents[i].length;
+        words[KH_EXTENT_WORDS * i + KH_EXTENT_SECTOR] = plan->extents[i].sector;
+    }
+    return kh_join_extents(words, KH_EXTENTS * KH_EXTENT_WORDS, plan->extent_count, machine_frames, frame_count, runs,
+                           run_count, answer);
+}
+
 /* The answer of a turn that was done, KH_TURN_WORDS words. */
 static inline kh_turned kh_read_turn(const uint64_t *answer) {
     kh_turned turned;
@@ -592,7 +649,7 @@ static inline kh_completed_many kh_read_many(const uint64_t *answer) {
     return completed;
 }
 
-/* A run of sectors in one frame, for a guest's request. */
+/* Some sectors of one frame, for a guest's request. */
 typedef struct {
     uint32_t frame; /* grant reference */
     uint32_t first; /* first sector in the frame, 0 to 7 */
@@ -659,6 +716,7 @@ static inline kh_collected kh_read_collected(const uint64_t *answer) {
 KH_HOLDS(lengths_have_64_bits, sizeof(size_t) == 8 && sizeof(void *) == 8);
 KH_HOLDS(memory_is_its_words, sizeof(kh_memory) == 8 * KH_MEMORY_WORDS);
 KH_HOLDS(a_meter_is_four_words, sizeof(kh_meter) == 32 && offsetof(kh_meter, not_supported) == 24);
+KH_HOLDS(a_run_is_four_words, sizeof(kh_run) == 32 && offsetof(kh_run, sector) == 24);
 KH_HOLDS(rings_are_a_share_a_port, KH_RINGS_BYTES == KH_PORTS * KH_RING_BYTES);
 KH_HOLDS(a_share_has_every_page, KH_RING_BYTES == KH_RING_PAGES * KH_PAGE_BYTES);
 KH_HOLDS(every_slot_has_a_tag, KH_TAGS == KH_RING_PAGES * KH_PAGE_SLOTS);

@@ -2,7 +2,7 @@
 
 use kernelharp::words::{
     collect, done, entry, extent, kind, many, put, request, segment, turn, COLLECT_WORDS,
-    DONE_WORDS, MANY_WORDS, PUT_WORDS, REQUEST_WORDS, TURN_WORDS,
+    DONE_WORDS, JOIN_WORDS, MANY_WORDS, PUT_WORDS, REQUEST_WORDS, TURN_WORDS,
 };
 use kernelharp::{layout, Abi, Operation, Reason, Refusal, Status};
 use kernelharp::{GUEST_WORDS, MEMORY_WORDS, VERSION};
@@ -150,6 +150,25 @@ fn words_of_a_list() {
     assert_eq!(MANY_WORDS, 68, "a word to each entry there can be");
 }
 
+/// The words of a record that is lent, in the header's order.
+fn fields(name: &str) -> Vec<&'static str> {
+    let end = HEADER.find(&format!("}} {name};")).expect("a record");
+    let begin = HEADER[..end].rfind("typedef struct {").expect("its begin");
+    let lines = HEADER[begin..end].lines().filter_map(|line| {
+        let (names, _) = line.trim().strip_prefix("uint64_t ")?.split_once(';')?;
+        Some(names.split(", "))
+    });
+    lines.flatten().collect()
+}
+
+#[test]
+fn words_of_records() {
+    header_has([("KH_JOIN_WORDS", JOIN_WORDS)]);
+    let meter = ["taken", "okay", "error", "not_supported"];
+    assert_eq!(fields("kh_meter"), meter);
+    assert_eq!(fields("kh_run"), ["frame", "first", "length", "sector"]);
+}
+
 #[test]
 fn words_of_the_guests_half() {
     header_has([
@@ -278,9 +297,9 @@ fn rattle_sizes_and_places() {
         (source!("layout/src/lib"), "KH_"),
         (source!("model/src/limit"), "KH_"),
         (source!("model/src/grant"), "KH_GRANT_"),
-        (source!("answers/src/turned"), "KH_TURN_"),
-        (source!("answers/src/turned"), "KH_"),
-        (source!("answers/src/completed"), "KH_"),
+        (source!("turn_answers/src/lib"), "KH_TURN_"),
+        (source!("turn_answers/src/lib"), "KH_"),
+        (source!("completion_answers/src/completed"), "KH_"),
     ] {
         for (name, number) in rattle(source, prefix) {
             if let Some(there) = header.get(name.as_str()) {

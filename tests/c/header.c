@@ -20,8 +20,9 @@ static void check_named(const int *names, size_t count, int first) {
 }
 
 static void check_names(void) {
-    static const int calls[] = {KH_OK,        KH_WRONG_LENGTH, KH_NO_PORT,  KH_NOT_CLOSED,
-                                KH_IS_CLOSED, KH_IN_FLIGHT,    KH_NOT_BUSY, KH_TOO_MANY};
+    static const int calls[] = {KH_OK,        KH_WRONG_LENGTH, KH_NO_PORT,  KH_NOT_CLOSED,     KH_IS_CLOSED,
+                                KH_IN_FLIGHT, KH_NOT_BUSY,     KH_TOO_MANY, KH_TOO_FEW_FRAMES, KH_TOO_FEW_RUNS,
+                                KH_NO_PLAN};
     static const int sheets[] = {KH_SHEET_SHAPE, KH_SHEET_NODES, KH_SHEET_TEXT, KH_SHEET_NUMBER, KH_SHEET_MISSING};
     static const int unsupported[] = {KH_UNKNOWN_OPERATION, KH_FEATURE_OFF};
     static const int errors[] = {KH_READ_ONLY,   KH_WRONG_AMOUNT, KH_WRONG_SEGMENT,
@@ -88,13 +89,17 @@ static void check_layouts(void) {
     CHECK_EQ(kh_response_bytes(KH_BITS32), 12);
 }
 
-/* The record as the archive has it: four words, in this order. */
-static void check_meter_places(void) {
-    CHECK_EQ(sizeof(kh_meter), 4 * sizeof(uint64_t));
-    CHECK_EQ(offsetof(kh_meter, taken), 0);
-    CHECK_EQ(offsetof(kh_meter, okay), 8);
-    CHECK_EQ(offsetof(kh_meter, error), 16);
-    CHECK_EQ(offsetof(kh_meter, not_supported), 24);
+/* The records as the archive has them: four words each, in this order. */
+static void check_record_places(void) {
+    static const size_t meter[] = {offsetof(kh_meter, taken), offsetof(kh_meter, okay), offsetof(kh_meter, error),
+                                   offsetof(kh_meter, not_supported), sizeof(kh_meter)};
+    static const size_t run[] = {offsetof(kh_run, frame), offsetof(kh_run, first), offsetof(kh_run, length),
+                                 offsetof(kh_run, sector), sizeof(kh_run)};
+    size_t i;
+    for (i = 0; i < 5; i++) {
+        CHECK_EQ(meter[i], 8 * i);
+        CHECK_EQ(run[i], 8 * i);
+    }
 }
 
 /* A guest's read of sectors 8 to 15 into frame 9, on port 1. */
@@ -118,6 +123,47 @@ static void check_started_read(const kh_turned *turned) {
     CHECK(turned->plan.operation == KH_READ && turned->plan.start == 8 && turned->plan.count == 8);
     CHECK(turned->plan.extent_count == 1 && !turned->plan.secure);
     CHECK(extent->frame == 9 && extent->first == 0 && extent->length == 8 && extent->sector == 8);
+}
+
+/* The read's one extent, whose frame is machine frame 70. */
+static void check_join_calls(const uint64_t *answer, const kh_plan *plan) {
+    static const uint64_t frames[] = {70};
+    uint64_t joined[KH_JOIN_WORDS] = {5};
+    kh_run run = {1, 2, 3, 4};
+    CHECK_EQ(kh_join_extents(NULL, 0, 1, frames, 1, &run, 1, joined), KH_NO_PLAN);
+    CHECK_EQ(kh_join_extents(answer + KH_TURN_EXTENTS, 44, answer[KH_TURN_EXTENT_COUNT], NULL, 0, &run, 1, joined),
+             KH_TOO_FEW_FRAMES);
+    CHECK_EQ(kh_join_plan(plan, frames, 1, NULL, 0, joined), KH_TOO_FEW_RUNS);
+    CHECK(joined[0] == 5 && run.frame == 1 && run.first == 2 && run.length == 3 && run.sector == 4);
+    CHECK_EQ(kh_join_plan(plan, frames, 1, &run, 1, joined), KH_OK);
+    CHECK(joined[0] == 1 && run.frame == 70 && run.first == 0 && run.length == 8 && run.sector == 8);
+    CHECK_EQ(kh_join_extents(NULL, 0, 0, NULL, 0, NULL, 0, joined), KH_OK);
+    CHECK_EQ(joined[0], 0);
+}
+
+/* A plan whose extents have a number each, and more of them than it can have: refused, and no word beside is read. */
+static void check_join_of_plan(void) {
+    uint64_t frames[KH_EXTENTS + 1], joined = 0;
+    kh_run runs[KH_EXTENTS];
+    kh_plan plan;
+    uint32_t i;
+    memset(&plan, 0, sizeof plan);
+    for (i = 0; i < KH_EXTENTS; i++) {
+        frames[i] = 70 + 2 * i;
+        plan.extents[i].frame = 9;
+        plan.extents[i].first = i % 4;
+        plan.extents[i].length = 3;
+        plan.extents[i].sector = (UINT64_C(1) << 40) + 3 * i;
+    }
+    frames[KH_EXTENTS] = 0;
+    plan.extent_count = KH_EXTENTS + 1;
+    CHECK_EQ(kh_join_plan(&plan, frames, KH_EXTENTS + 1, runs, KH_EXTENTS, &joined), KH_NO_PLAN);
+    plan.extent_count = KH_EXTENTS;
+    CHECK_EQ(kh_join_plan(&plan, frames, KH_EXTENTS, runs, KH_EXTENTS, &joined), KH_OK);
+    CHECK_EQ(joined, KH_EXTENTS);
+    for (i = 0; i < KH_EXTENTS; i++)
+        CHECK(runs[i].frame == frames[i] && runs[i].first == i % 4 && runs[i].length == 3 &&
+              runs[i].sector == plan.extents[i].sector);
 }
 
 /* A list of port 1, which has nothing in flight: refused, and then empty. */
@@ -152,6 +198,7 @@ static void check_calls(void) {
     kh_meter_turn(&meter, returned, answer);
     turned = kh_read_turn(answer);
     check_started_read(&turned);
+    check_join_calls(answer, &turned.plan);
     CHECK_EQ(kh_close(&memory, 1), KH_IN_FLIGHT);
     returned = kh_complete(&memory, rings, sizeof rings, turned.port, turned.plan.tag, turned.plan.serial, 8, done);
     CHECK_EQ(returned, KH_OK);
@@ -283,8 +330,9 @@ int main(void) {
     check_reason_texts();
     check_layouts();
     check_rings();
-    check_meter_places();
+    check_record_places();
     check_calls();
+    check_join_of_plan();
     check_turn_reader();
     check_completion_reader();
     check_list_reader();

@@ -3,7 +3,7 @@
  * words of its file, is what is due there. Lines that name no layout are run in both, and those that name no number of
  * pages with rings of one and of two.
  */
-#include "test.h"
+#include "joining.h"
 
 #include <inttypes.h>
 #include <stdarg.h>
@@ -467,6 +467,47 @@ static void list_vectors(host *h) {
     print_count(h, "     %u lists of completions\n", run_file(h, "tests/vectors/lists.txt", run_list));
 }
 
+/* One place of a plan and its machine frame; what is given behind it, or NULL. */
+static const char *read_place(const char *given, joint *j, size_t i) {
+    uint64_t n[4];
+    given = i < MOST_PLACES ? read_some(given, n, COUNT_OF(n)) : NULL;
+    if (given != NULL) {
+        set_extent(j, i, n[0], n[1], n[2]);
+        j->extents[KH_EXTENT_WORDS * i + KH_EXTENT_FRAME] = ~n[3];
+        j->frames[i] = n[3];
+    }
+    return given;
+}
+
+/* PIECES FRAMES RECORDS | FIRST LENGTH SECTOR MACHINE .. = what is due */
+static bool run_join(host *h, const char *given, text *came) {
+    static joint j;
+    uint64_t n[3];
+    uint32_t number;
+    (void)h;
+    given = read_some(given, n, COUNT_OF(n));
+    for (j.extent_words = 0; given != NULL && strncmp(given, " |", 2) == 0; j.extent_words += KH_EXTENT_WORDS)
+        given = read_place(given + 2, &j, j.extent_words / KH_EXTENT_WORDS);
+    if (given == NULL || *given != '\0' || n[1] > MOST_PLACES || n[2] > MOST_PLACES)
+        return false;
+    j.pieces = n[0];
+    j.frame_count = n[1];
+    j.run_count = n[2];
+    number = JOIN(&j);
+    if (number != KH_OK) {
+        say(came, "refused %" PRIu32, number);
+        return true;
+    }
+    say(came, "done");
+    for (const kh_run *run = joined_runs; run < joined_runs + joined && joined <= j.run_count; run++)
+        say(came, " | %" PRIu64 " %" PRIu64 " %" PRIu64 " %" PRIu64, run->frame, run->first, run->length, run->sector);
+    return true;
+}
+
+static void run_vectors(host *h) {
+    print_count(h, "     %u joinings of extents\n", run_file(h, "tests/vectors/runs.txt", run_join));
+}
+
 /* EXPECTED RESULT = STATUS */
 static bool run_result(host *h, const char *given, text *came) {
     request r = transfer(KH_READ, 1, 0);
@@ -542,7 +583,7 @@ static void worked_cases(host *h) {
 }
 
 int main(void) {
-    static const test named[] = {TEST(sheet_vectors)};
+    static const test named[] = {TEST(sheet_vectors), TEST(run_vectors)};
     static const test any_shape[] = {TEST(request_vectors), TEST(segment_vectors), TEST(record_vectors),
                                      TEST(list_vectors), TEST(worked_cases)};
     int failed = run_tests(named, COUNT_OF(named));

@@ -4,6 +4,7 @@
  */
 #include "wrong_23.h"
 #include "wrong_29.h"
+#include "wrong_join.h"
 #include "wrong_lists.h"
 #include "wrong_rings.h"
 

@@ -1,15 +1,36 @@
-// A call's answer as the words and the number that C reads, a file to an answer.
-pub mod completed;
-mod guest;
-pub mod many;
-pub mod turned;
-mod values;
+// What answers share: the number of a refusal, a status by its magnitude, yes and no.
+use model::Reply;
+use model::Status;
+ghost use mathlib.Core.Path.{_≡_};
+ghost use Rattle.model.specs.Answers.{replyNumber, magnitude as magnitudeOf, yesNo};
 
-pub use completed::put_completed;
-pub use guest::put_collected;
-pub use guest::put_put;
-pub use many::put_many;
-pub use turned::put_turned;
-pub use values::magnitude;
-pub use values::number;
-pub use values::seen;
+pub fn number(reply: Reply) -> u32
+    ensures { λ n. ⌜ n ≡ replyNumber reply ⌝ }
+{
+    match reply {
+        Reply::Refused(n) => n,
+        Reply::Done => 0,
+    }
+}
+
+pub fn magnitude(status: Status) -> u64
+    ensures { λ n. ⌜ n ≡ magnitudeOf status ⌝ }
+{
+    match status {
+        Status::Okay => 0,
+        Status::Error => 1,
+        Status::NotSupported => 2,
+    }
+}
+
+pub fn yes_no(b: bool) -> u64
+    ensures { λ n. ⌜ n ≡ yesNo b ⌝ }
+{
+    if b {
+        return 1;
+    }
+    0
+}
+
+// No work: an array that is lent on as a slice is how a proof learns how many words it has.
+pub fn seen(answer: &[u64]) {}

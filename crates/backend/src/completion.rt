@@ -63,7 +63,7 @@ fn finish(
     ensures { λ r. ⌜ TagFinished (now (memory .entry)) (now (rings .entry)) k t x result (now (rings .exit)) r (now (memory .exit)) ⌝ }
 {
     release(memory, k, t, p);
-    let status = response::status_of(x.expected, result);
+    let status = status::status_of(x.expected, result);
     let pair = x.pair;
     let params = p.params;
     let abi = params.abi;

@@ -2,8 +2,8 @@
 use crate::record::raised;
 use crate::words::DONE;
 use crate::words::of_word;
-use answers::many::MANY_COUNT;
-use answers::many::MANY_STATUSES;
+use completion_answers::many::MANY_COUNT;
+use completion_answers::many::MANY_STATUSES;
 use model::Counters;
 use model::buffer::MANY_WORDS;
 use model::limit::MOST_COMPLETIONS;

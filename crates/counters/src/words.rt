@@ -1,13 +1,13 @@
 // Which number an answer raises, by what the call returned and the words that it left, whatever they are.
-use answers::completed::DONE_STATUS;
-use answers::turned::ANSWERED;
-use answers::turned::KIND;
-use answers::turned::OVERRUN;
-use answers::turned::STARTED;
-use answers::turned::STATUS;
+use completion_answers::completed::DONE_STATUS;
 use model::Counter;
 use model::buffer::DONE_WORDS;
 use model::buffer::TURN_WORDS;
+use turn_answers::ANSWERED;
+use turn_answers::KIND;
+use turn_answers::OVERRUN;
+use turn_answers::STARTED;
+use turn_answers::STATUS;
 ghost use mathlib.Core.Path.{_≡_};
 ghost use Rattle.model.specs.Counters.{kindTaken, wordCounter, kindStatus, takenIn, statusIn, doneIn};
 

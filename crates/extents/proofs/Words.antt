@@ -26,6 +26,12 @@ extents-snoc at (x ∷ ss) s = rw (extents-snoc (at + sectorsIn x) ss s, add-ass
 
 -- ---- words
 
+pub length-words : (n : ℕ) (es : List Extent) → length (extentWords n es) ≡ 4 * n
+unfolding extentWords
+length-words zero es = refl
+length-words (suc n) [] = omega (arith, length-words n [])
+length-words (suc n) (e ∷ es) = omega (arith, length-words n es)
+
 -- the words of one extent more
 pub words-snoc : (es : List Extent) (e : Extent)
     → extentWords (length es + 1) (es ++ e ∷ []) ≡ extentWords (length es) es ++ e .frame ∷ e .first ∷ e .count ∷ e .sector ∷ []

@@ -1,3 +1,1 @@
-pub mod Outstanding
-pub mod Pages
 pub mod Promises

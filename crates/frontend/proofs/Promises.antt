@@ -15,10 +15,10 @@ use Rattle.model.specs.declared.Put.{Put}
 use Rattle.model.proofs.Base.{by-cond}
 use Rattle.asking.specs.Request.{isBad}
 use Rattle.asking.specs.Slot.{slotFor}
-use Rattle.frontend.specs.Guest.{Guest, guestPage, isPage, mostOutstanding, placeOf, has, sameId, samePair, PutEffect, notPut, putPage, puts, putDue, CollectEffect, notCollected, ahead, nextPair, nextStatus, waits, collects, collectDue}
-use Rattle.frontend.specs.Words.{putAt, collectedAt, countAt, idsAt, operationsAt, guestWords, indexIn, countIn, pairAt, guestOf, setPair, wordsPut, wordsEnded}
+use Rattle.guest.specs.Guest.{Guest, guestPage, isPage, mostOutstanding, placeOf, has, sameId, samePair, PutEffect, notPut, putPage, puts, putDue, CollectEffect, notCollected, ahead, nextPair, nextStatus, waits, collects, collectDue}
+use Rattle.outstanding.specs.Words.{putAt, collectedAt, countAt, idsAt, operationsAt, guestWords, indexIn, countIn, pairAt, guestOf, setPair, wordsPut, wordsEnded}
 use Rattle.frontend.specs.Promise.{putWordsLeft, collectWordsLeft, PutPromise, Placed, CollectPromise}
-use Rattle.frontend.proofs.Outstanding.{length-outstanding, guest-put, guest-ended}
+use Rattle.outstanding.proofs.Words.{length-outstanding, guest-put, guest-ended}
 
 -- ---- putting
 

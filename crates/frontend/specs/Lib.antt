@@ -1,3 +1,1 @@
-pub mod Guest
-pub mod Words
 pub mod Promise

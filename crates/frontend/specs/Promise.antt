@@ -9,8 +9,8 @@ use Rattle.model.specs.Ring.{Request, reqEvent}
 use Rattle.model.specs.declared.Collected.{Collected}
 use Rattle.model.specs.declared.Pair.{Pair}
 use Rattle.model.specs.declared.Put.{Put}
-use Rattle.frontend.specs.Guest.{putPage, putDue, collectDue, placeOf, samePair}
-use Rattle.frontend.specs.Words.{guestWords, guestOf, wordsPut, wordsEnded}
+use Rattle.guest.specs.Guest.{putPage, putDue, collectDue, placeOf, samePair}
+use Rattle.outstanding.specs.Words.{guestWords, guestOf, wordsPut, wordsEnded}
 
 -- the words that an answer leaves: a refusal and a wait leave them as they are (rules 16.3, 16.10 and 16.12)
 abbrev pub putWordsLeft : List ℕ → Pair → Put → List ℕ

@@ -1,19 +1,19 @@
 // Collecting a response.
-use crate::page::arm;
-use crate::page::response_pair;
-use crate::page::response_status;
-use crate::page::rsp_prod;
-use crate::words::collect_index;
-use crate::words::end;
-use crate::words::known;
-use crate::words::outstanding;
-use crate::words::place_of;
+use guest::arm;
+use guest::response_pair;
+use guest::response_status;
+use guest::rsp_prod;
 use model::Collected;
 use model::buffer::GUEST_PAGE_BYTES;
 use model::buffer::GUEST_WORDS;
 use model::refusal::BAD_RSP_PROD;
 use model::refusal::NOT_OUTSTANDING;
 use model::refusal::WRONG_LENGTH;
+use outstanding::collect_index;
+use outstanding::end;
+use outstanding::known;
+use outstanding::outstanding;
+use outstanding::place_of;
 ghost use Rattle.frontend.specs.Promise.{CollectPromise};
 
 // Any page, any words: the next response, or that there is none, or a refusal. rsp_prod is read once, and judged before any response is looked at.

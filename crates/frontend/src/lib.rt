@@ -2,9 +2,7 @@
 // its own memory, and nothing of a backend.
 // Of the page's bytes a put reads req_event alone, a collect rsp_prod and at most one response, each byte once (rule 16.20).
 mod collecting;
-mod page;
 mod putting;
-mod words;
 
 pub use collecting::collect;
 pub use putting::put;

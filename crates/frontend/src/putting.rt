@@ -1,15 +1,9 @@
 // Putting a request.
-use crate::page::publish;
-use crate::words::MOST;
-use crate::words::add;
-use crate::words::has_id;
-use crate::words::known;
-use crate::words::outstanding;
-use crate::words::put_index;
 use asking::COUNT;
 use asking::DISCARD;
 use asking::ID;
 use asking::OPERATION;
+use guest::publish;
 use layout::SLOT_BYTES;
 use model::Put;
 use model::buffer::GUEST_PAGE_BYTES;
@@ -19,13 +13,19 @@ use model::refusal::BAD_REQUEST;
 use model::refusal::ID_OUTSTANDING;
 use model::refusal::RING_FULL;
 use model::refusal::WRONG_LENGTH;
+use outstanding::MOST;
+use outstanding::add;
+use outstanding::has_id;
+use outstanding::known;
+use outstanding::outstanding;
+use outstanding::put_index;
 ghost use Prim.Native.Nat.{_<_};
 ghost use mathlib.Core.Path.{_≡_};
 ghost use lib.ListN.{length};
 ghost use Rattle.asking.specs.Request.{requestIn};
-ghost use Rattle.frontend.specs.Guest.{guestPage, mostOutstanding};
+ghost use Rattle.guest.specs.Guest.{guestPage, mostOutstanding};
 ghost use Rattle.frontend.specs.Promise.{PutPromise, Placed};
-ghost use Rattle.frontend.specs.Words.{guestOf};
+ghost use Rattle.outstanding.specs.Words.{guestOf};
 
 // A request that may be put goes to our own index: its slot to the page, its id and operation to the outstanding.
 fn place(

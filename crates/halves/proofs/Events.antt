@@ -28,8 +28,8 @@ use Rattle.model.proofs.Base.{by-cond, clash}
 use Rattle.model.proofs.Page.{length-pagesOf, pagesOf-setPages, pagesOf-other}
 use Rattle.model.proofs.Responses.{getD-all}
 use Rattle.model.proofs.Ring.{fits}
-use Rattle.frontend.specs.Guest.{guestPage, guestRing, putPage}
-use Rattle.frontend.proofs.Pages.{slot-header}
+use Rattle.guest.specs.Guest.{guestPage, guestRing, putPage}
+use Rattle.guest.proofs.Pages.{slot-header}
 use Rattle.halves.proofs.Page.{guest-fits, guest-bytes, put-outside, quiet-reqEvent}
 use Rattle.halves.proofs.Left.{armed-alike, armed-all}
 

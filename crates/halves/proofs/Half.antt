@@ -20,7 +20,7 @@ use Rattle.model.specs.declared.State.{State}
 use Rattle.model.proofs.Conservation.{Sound, numbers}
 use Rattle.model.proofs.Order.{one, count-nil, count-cons, count-all, isPair-self}
 use Rattle.asking.specs.Slot.{slotFor}
-use Rattle.frontend.specs.Guest.{guestPage, guestRing, Guest, freshGuest, mostOutstanding, placeOf, has, sameId, samePair, without, puts, ahead, nextPair, nextStatus, collects}
+use Rattle.guest.specs.Guest.{guestPage, guestRing, Guest, freshGuest, mostOutstanding, placeOf, has, sameId, samePair, without, puts, ahead, nextPair, nextStatus, collects}
 use Rattle.halves.specs.Claim.{AsPut, readSlot}
 use Rattle.halves.specs.System.{Gathered}
 use Rattle.halves.proofs.Page.{guest-reads, responseAt, response-modulus, PageHolds, page-first, Quiet, page-quiet, page-taken, page-collected, page-put, page-responded}

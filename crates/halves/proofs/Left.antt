@@ -29,7 +29,7 @@ use Rattle.model.proofs.DueFacts.{AnsweredNow}
 use Rattle.model.proofs.Page.{length-pagesOf, pagesOf-setPages, length-setPages, pagesOf-other, req-event-at}
 use Rattle.model.proofs.Responses.{length-all}
 use Rattle.model.proofs.Ring.{fits, header-room}
-use Rattle.frontend.specs.Guest.{guestRing}
+use Rattle.guest.specs.Guest.{guestRing}
 use Rattle.halves.proofs.Page.{guest-fits, Quiet, quiet-refl, quiet-trans, quiet-reqEvent}
 
 -- ---- the rings

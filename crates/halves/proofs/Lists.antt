@@ -12,7 +12,7 @@ use Rattle.model.specs.Demand.{All, count}
 use Rattle.model.specs.declared.Pair.{Pair}
 use Rattle.model.proofs.Base.{least-is, least-before}
 use Rattle.model.proofs.Order.{one, count-nil, count-cons, count-append, count-all, isPair-true}
-use Rattle.frontend.specs.Guest.{noPair, placeOf, has, sameId, samePair, without}
+use Rattle.guest.specs.Guest.{noPair, placeOf, has, sameId, samePair, without}
 
 -- ---- lists
 

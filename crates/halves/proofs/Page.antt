@@ -22,8 +22,8 @@ use Rattle.model.specs.declared.Pair.{Pair}
 use Rattle.model.specs.declared.Status.{Status}
 use Rattle.model.proofs.Page.{length-responded, status-responded, rspProd-responded, getD-responded, bytes-responded}
 use Rattle.model.proofs.Ring.{Fits, fits-for, slotAt-modulus, slotOf-modulus}
-use Rattle.frontend.proofs.Pages.{slot-room, slot-header}
-use Rattle.frontend.specs.Guest.{guestPage, guestRing, putPage}
+use Rattle.guest.proofs.Pages.{slot-room, slot-header}
+use Rattle.guest.specs.Guest.{guestPage, guestRing, putPage}
 use Rattle.halves.specs.Claim.{readSlot}
 use Rattle.halves.specs.System.{Gathered}
 

@@ -35,7 +35,7 @@ use Rattle.model.proofs.Page.{length-pagesOf, pagesOf-setPages, pair-responded}
 use Rattle.model.proofs.Permitted.{view-ring, view-consumed, view-produced, view-inFlight, view-state, chosen-open}
 use Rattle.model.proofs.Responses.{one-by-one, length-all, AllRead, AllFit, all-read}
 use Rattle.model.proofs.Ring.{slotAt-modulus}
-use Rattle.frontend.specs.Guest.{guestRing, Guest}
+use Rattle.guest.specs.Guest.{guestRing, Guest}
 use Rattle.halves.specs.System.{Gathered, took, tookAll}
 use Rattle.halves.proofs.Page.{guest-fits, guest-bytes, Quiet, quiet-refl}
 use Rattle.halves.proofs.Half.{Half, put-count, half-quiet, half-state, half-take, half-respond, modular, answered-le}

@@ -36,7 +36,7 @@ use Rattle.model.proofs.Refinement.{Told, told-step}
 use Rattle.model.proofs.Ring.{slotOf-modulus}
 use Rattle.asking.specs.Request.{isBad}
 use Rattle.asking.specs.Slot.{slotFor}
-use Rattle.frontend.specs.Guest.{guestPage, guestRing, isPage, mostOutstanding, has, sameId, samePair, PutEffect, putDue, puts, ahead, nextPair, CollectEffect, collectDue, collects, waits}
+use Rattle.guest.specs.Guest.{guestPage, guestRing, isPage, mostOutstanding, has, sameId, samePair, PutEffect, putDue, puts, ahead, nextPair, CollectEffect, collectDue, collects, waits}
 use Rattle.halves.specs.Claim.{readSlot, NotOverrun, Holds, Fit, Lends, ForGuest, HalvesTheorem}
 use Rattle.halves.specs.System.{Gathered, System, Step, putting, collecting, turning, completing, openingOther, closingAny, logPut, logCollected, logRefused, turnOn, completeOn, slotsTaken, step, run, opened, atOpening}
 use Rattle.halves.proofs.Page.{guest-bytes, guest-reads, guest-fits, quiet-rspEvent}

@@ -33,7 +33,7 @@ use Rattle.model.proofs.Refinement.{told-step}
 use Rattle.model.proofs.Responses.{none-responded}
 use Rattle.asking.specs.Request.{isBad}
 use Rattle.asking.specs.Slot.{slotFor}
-use Rattle.frontend.specs.Guest.{guestPage, guestRing, isPage, mostOutstanding, has, sameId, samePair, PutEffect, putDue, puts, ahead, nextPair, CollectEffect, collectDue, collects, waits}
+use Rattle.guest.specs.Guest.{guestPage, guestRing, isPage, mostOutstanding, has, sameId, samePair, PutEffect, putDue, puts, ahead, nextPair, CollectEffect, collectDue, collects, waits}
 use Rattle.halves.specs.Claim.{Lends}
 use Rattle.halves.specs.System.{System, Step, putting, collecting, turning, completing, openingOther, closingAny, logPut, logCollected, turnOn, completeOn, step, atOpening}
 use Rattle.halves.specs.Wakeups.{Waits, nobodyWaits, afterPut, afterCollect, afterTurn, afterCompletion, waitsAfter, Rests, RestsAfter, WakeupTheorem}

@@ -17,7 +17,7 @@ use Rattle.model.specs.declared.Params.{Params}
 use Rattle.model.specs.declared.Sheet.{Sheet}
 use Rattle.model.specs.declared.Turned.{Turned}
 use Rattle.asking.specs.Slot.{guestLayout, slotFor}
-use Rattle.frontend.specs.Guest.{guestRing, sameId}
+use Rattle.guest.specs.Guest.{guestRing, sameId}
 use Rattle.halves.specs.System.{Gathered, System, Step, putting, collecting, turning, completing, openingOther, closingAny, slotsTaken, run, atOpening}
 
 -- a slot as the backend reads it

@@ -16,7 +16,7 @@ use Rattle.model.specs.declared.Collected.{Collected}
 use Rattle.model.specs.declared.Pair.{Pair}
 use Rattle.model.specs.declared.PortId.{PortId}
 use Rattle.model.specs.declared.Put.{Put}
-use Rattle.frontend.specs.Guest.{guestRing, Guest, zeroPage, freshGuest, putDue, collectDue}
+use Rattle.guest.specs.Guest.{guestRing, Guest, zeroPage, freshGuest, putDue, collectDue}
 
 -- ---- what the backend took, by its history
 

@@ -14,7 +14,7 @@ use Rattle.model.specs.Port.{isOpen}
 use Rattle.model.specs.declared.Collected.{Collected}
 use Rattle.model.specs.declared.Put.{Put}
 use Rattle.model.specs.declared.Turned.{Turned}
-use Rattle.frontend.specs.Guest.{putDue, collectDue}
+use Rattle.guest.specs.Guest.{putDue, collectDue}
 use Rattle.halves.specs.Claim.{Lends, NotOpening, ForGuest}
 use Rattle.halves.specs.System.{System, Step, putting, collecting, turning, completing, openingOther, closingAny, turnOn, completeOn, step, atOpening}
 

@@ -2,16 +2,17 @@
 use mathlib.Core.Path.{_≡_, refl, ap, _∙_}
 use mathlib.Core.Bool.{Bool, true, false, not, _&&_}
 use mathlib.Core.List.{List, [], _∷_, map}
-use Prim.Native.Nat.{ℕ, zero, suc, _-_, _*_}
+use Prim.Native.Nat.{ℕ, zero, suc, _-_}
 use native.Mathlib.Omega.{arith}
 use lib.Dec.{ltb}
 use lib.ListN.{length, take, replicate, length-map}
 use lib.Seq.{take-at}
+use Rattle.extents.proofs.Words.{length-words}
 use Rattle.wire.specs.Part.{part}
 use Rattle.model.specs.Answers.{replyNumber, turnedNumber, turnedWords, completedNumber, magnitude, magnitudes, statusWords, yesNo, extentsIn, turnAnswer, turnLeft, doneLeft, manyLeft}
 use Rattle.model.specs.Buffers.{ports, areRings, areGrants}
 use Rattle.model.specs.Calls.{TurnEffect, CompleteAnswer, noneDone, allDone, mostCompletions}
-use Rattle.model.specs.Plan.{Extent, extentWords, wordsBeside}
+use Rattle.model.specs.Plan.{wordsBeside}
 use Rattle.model.specs.Port.{View}
 use Rattle.model.specs.Ring.{Request}
 use Rattle.model.specs.Rules.{dueTurn}
@@ -82,32 +83,26 @@ turned-decoded (Turned.Answered p n z y) answer extents words h w = rw (w, statu
 
 -- ---- the extents out of the answer
 
-length-extents : (n : ℕ) (es : List Extent) → length (extentWords n es) ≡ 4 * n
-unfolding extentWords
-length-extents zero es = refl
-length-extents (suc n) [] = omega (arith, length-extents n [])
-length-extents (suc n) (e ∷ es) = omega (arith, length-extents n es)
-
 -- of a turn that was done there are 44 words
 abbrev pub Long : TurnEffect → Type 0
 Long e = turnedNumber (e .answer) ≡ 0 → length (e .words) ≡ 44
 
 settled-long : (v : View) (rings : List ℕ) (k : ℕ) (r : Request) (x : Verdict) → Long (settled v rings k r x)
 unfolding settled wordsBeside
-settled-long v rings k r (Verdict.Refused n s) = λ _. length-extents 11 []
-settled-long v rings k r (Verdict.Start plan) = λ _. length-extents 11 _
+settled-long v rings k r (Verdict.Refused n s) = λ _. length-words 11 []
+settled-long v rings k r (Verdict.Start plan) = λ _. length-words 11 _
 
 served-long : (v : View) (rings grants : List ℕ) (k : ℕ) (x : Pending) → Long (servedBy v rings grants k x)
 unfolding servedBy idle overran
-served-long v rings grants k Pending.Nothing = λ _. length-extents 11 []
+served-long v rings grants k Pending.Nothing = λ _. length-words 11 []
 served-long v rings grants k Pending.Waits = settled-long v rings k _ _
-served-long v rings grants k Pending.Overrun = λ _. length-extents 11 []
+served-long v rings grants k Pending.Overrun = λ _. length-words 11 []
 
 pub turn-long : (v : View) (rings grants words : List ℕ) → Long (dueTurn v rings grants words)
 unfolding dueTurn turned idle
 turn-long v rings grants words =
     by-cond Long (not (areRings rings && areGrants grants)) _ _ (λ _ z. absurd (omega arith)) (λ _.
-    by-cond Long (ltb (passedOver v rings) ports) _ _ (λ _. served-long v rings grants _ _) (λ _ _. length-extents 11 []))
+    by-cond Long (ltb (passedOver v rings) ports) _ _ (λ _. served-long v rings grants _ _) (λ _ _. length-words 11 []))
 
 -- the extents in the middle of an answer
 pub extents-decoded : (r : Turned) (xs : List ℕ) → NumberedTurned r → turnedNumber r ≡ 0 → length xs ≡ 44 → extentsIn (turnAnswer (turnedWords r) xs) ≡ xs

@@ -21,11 +21,11 @@ use Rattle.memory.specs.Backend.{backendOf, Exact}
 use Rattle.memory.specs.Words.{zeros}
 use Rattle.memory.proofs.Changes.{becomes-exact}
 use Rattle.memory.proofs.Zeros.{backend-zeros, zeros-exact}
-use Rattle.runs.proofs.Every.{outcome}
-use Rattle.runs.proofs.Runs.{zeros-told}
+use Rattle.theorem.proofs.Every.{outcome}
+use Rattle.theorem.proofs.Runs.{zeros-told}
 use Rattle.asking.specs.Request.{requestIn, isBad}
-use Rattle.frontend.specs.Guest.{guestRing, Guest, guestPage, zeroPage, isPage, mostOutstanding, has, sameId, samePair, freshGuest, PutEffect, putDue, puts, CollectEffect, ahead, nextPair, collectDue, collects, waits}
-use Rattle.frontend.specs.Words.{guestWords, pairsIn, guestOf, guestZeros}
+use Rattle.guest.specs.Guest.{guestRing, Guest, guestPage, zeroPage, isPage, mostOutstanding, has, sameId, samePair, freshGuest, PutEffect, putDue, puts, CollectEffect, ahead, nextPair, collectDue, collects, waits}
+use Rattle.outstanding.specs.Words.{guestWords, pairsIn, guestOf, guestZeros}
 use Rattle.frontend.specs.Promise.{putWordsLeft, collectWordsLeft}
 use Rattle.frontend.proofs.Promises.{put-guest, collect-guest, length-put, length-collect}
 use Rattle.halves.specs.System.{System, putting, collecting, turning, completing, openingOther, closingAny, logPut, logCollected, logRefused, called, step, opened}

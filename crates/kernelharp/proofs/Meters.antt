@@ -27,8 +27,8 @@ use Rattle.memory.specs.Backend.{backendOf, Exact}
 use Rattle.memory.specs.Words.{zeros}
 use Rattle.memory.proofs.Changes.{becomes-exact}
 use Rattle.memory.proofs.Zeros.{zeros-exact}
-use Rattle.runs.proofs.Every.{outcome}
-use Rattle.runs.proofs.Runs.{zeros-told}
+use Rattle.theorem.proofs.Every.{outcome}
+use Rattle.theorem.proofs.Runs.{zeros-told}
 use Rattle.kernelharp.specs.Promise.{dueOn, turnCall, listCall, completeCall}
 use Rattle.kernelharp.specs.Run.{Made, khOpen, khClose, khTurn, khComplete, khCompleteMany, Outcome, Step, memoryLeft, callOf, effectOf, eventOf, Promise, BytesLent}
 use Rattle.kernelharp.specs.Meters.{HostStep, unmetered, metered, zeroing, Records, stored, MeterPromise, MeteredRun, recordsAfter, actOf, actsAfter, Wish, makes, zeroes, wishOf, WishBytes, MeteredRunOf, MetersTheorem}

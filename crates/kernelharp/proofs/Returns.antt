@@ -21,7 +21,7 @@ use Rattle.model.specs.declared.Put.{Put}
 use Rattle.model.specs.declared.Turned.{Turned}
 use Rattle.asking.specs.Request.{requestIn}
 use Rattle.frontend.specs.Promise.{putWordsLeft, collectWordsLeft, PutPromise, CollectPromise}
-use Rattle.answers.specs.Many.{manyNumber, manyPut}
+use Rattle.completion_answers.specs.Many.{manyNumber, manyPut}
 use Rattle.memory.specs.Backend.{backendOf}
 use Rattle.memory.specs.Promise.{Promised}
 use Rattle.lists.specs.List.{manyOf, manyFilled, ManyPromised}

@@ -21,8 +21,8 @@ use Rattle.memory.specs.Promise.{Promised}
 use Rattle.memory.specs.Words.{zeros}
 use Rattle.memory.proofs.Changes.{becomes-exact}
 use Rattle.memory.proofs.Zeros.{backend-zeros, zeros-exact, zeros-memory}
-use Rattle.runs.proofs.Every.{CallOutcome, outcome}
-use Rattle.runs.proofs.Runs.{promised-told, told-clean, zeros-told}
+use Rattle.theorem.proofs.Every.{CallOutcome, outcome}
+use Rattle.theorem.proofs.Runs.{promised-told, told-clean, zeros-told}
 use Rattle.kernelharp.specs.Decode.{replyOf, turnedOf, completedOf, manyOf}
 use Rattle.kernelharp.specs.Promise.{dueOn, Returned, turnCall, listCall, completeCall}
 use Rattle.kernelharp.specs.Run.{Made, khOpen, khClose, khTurn, khComplete, khCompleteMany, Outcome, Step, memoryLeft, memoryAfter, callOf, effectOf, eventOf, eventsAfter, historyOf, Promise, Run, BytesLent, outcomeOf, WordForWord, Holds, RunOf, Theorem}

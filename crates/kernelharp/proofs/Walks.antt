@@ -49,7 +49,9 @@ use Rattle.model.proofs.Counter as N
 use Rattle.model.proofs.Counter.Laws as N′
 use Rattle.model.proofs.Counters as R
 use Rattle.model.proofs.Counters.Laws as R′
-use Rattle.counters.proofs.Lent.{val, Good, tag, GoodTag, lent, gives, Locals, released}
+use Rattle.walks.proofs.Calls.{gives}
+use Rattle.walks.proofs.Locals.{Locals, released}
+use Rattle.counters.proofs.Lent.{val, Good, tag, GoodTag, lent}
 use Rattle.counters.proofs.raise as raise
 
 -- ---- the contracts

@@ -5,9 +5,9 @@ use mathlib.Core.List.{List}
 use Prim.Native.Nat.{ℕ}
 use Rattle.model.specs.Answers.{putNumber, collectedNumber, putLeft, collectedLeft}
 use Rattle.asking.specs.Request.{requestIn}
-use Rattle.frontend.specs.Guest.{PutEffect, putDue, CollectEffect, collectDue}
+use Rattle.guest.specs.Guest.{PutEffect, putDue, CollectEffect, collectDue}
 use Rattle.frontend.specs.Promise.{putWordsLeft, collectWordsLeft}
-use Rattle.frontend.specs.Words.{guestOf}
+use Rattle.outstanding.specs.Words.{guestOf}
 
 -- what each of the two leaves
 pub record GuestLeft : Type 0 where

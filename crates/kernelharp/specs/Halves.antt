@@ -14,8 +14,8 @@ use Rattle.model.specs.Ring.{Request}
 use Rattle.memory.specs.Backend.{backendOf}
 use Rattle.memory.specs.Words.{zeros}
 use Rattle.asking.specs.Request.{requestIn}
-use Rattle.frontend.specs.Guest.{guestRing, zeroPage}
-use Rattle.frontend.specs.Words.{guestOf, guestZeros}
+use Rattle.guest.specs.Guest.{guestRing, zeroPage}
+use Rattle.outstanding.specs.Words.{guestOf, guestZeros}
 use Rattle.halves.specs.Claim.{Holds, NotOpening, ForGuest}
 use Rattle.halves.specs.System.{Gathered, System}
 use Rattle.kernelharp.specs.Guest.{GuestLeft, PutReturned, CollectReturned}

@@ -1,5 +1,5 @@
 // kh_guest_collect
-use answers::put_collected;
+use guest_answers::put_collected;
 use model::buffer::COLLECT_WORDS;
 use model::buffer::GUEST_WORDS;
 ghost use Rattle.kernelharp.specs.Guest.{CollectReturned};

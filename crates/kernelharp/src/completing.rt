@@ -1,5 +1,5 @@
 // kh_complete
-use answers::put_completed;
+use completion_answers::put_completed;
 use memory::WORDS;
 use model::PortId;
 use model::Serial;

@@ -3,12 +3,13 @@
 use memory::WORDS;
 use model::buffer::GUEST_WORDS;
 ghost use mathlib.Core.Path.{_≡_};
-ghost use Rattle.frontend.specs.Words.{guestWords};
+ghost use Rattle.outstanding.specs.Words.{guestWords};
 ghost use Rattle.memory.specs.Layout.{memoryWords};
 
 mod closing;
 mod collecting;
 mod completing;
+mod joining;
 mod listing;
 mod metering;
 mod opening;
@@ -18,6 +19,7 @@ mod turning;
 pub use closing::kh_close;
 pub use collecting::kh_guest_collect;
 pub use completing::kh_complete;
+pub use joining::kh_join_extents;
 pub use listing::kh_complete_many;
 pub use metering::kh_meter_completion;
 pub use metering::kh_meter_many;
@@ -27,12 +29,12 @@ pub use putting::kh_guest_put;
 pub use turning::kh_turn;
 
 // major * 10000 + minor * 100 + patch
-const VERSION: u32 = 900;
+const VERSION: u32 = 1000;
 
 // Which version the archive is.
 #[no_mangle]
 pub extern "C" fn kh_version() -> u32
-    ensures { λ n. ⌜ n ≡ 900 ⌝ }
+    ensures { λ n. ⌜ n ≡ 1000 ⌝ }
 {
     VERSION
 }

@@ -1,6 +1,6 @@
 // kh_complete_many
-use answers::put_many;
 use answers::seen;
+use completion_answers::put_many;
 use memory::WORDS;
 use model::PortId;
 use model::buffer::MANY_WORDS;

@@ -1,5 +1,5 @@
 // kh_guest_put
-use answers::put_put;
+use guest_answers::put_put;
 use model::buffer::GUEST_WORDS;
 use model::buffer::PUT_WORDS;
 use model::buffer::REQUEST_WORDS;

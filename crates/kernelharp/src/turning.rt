@@ -1,7 +1,7 @@
 // kh_turn
-use answers::put_turned;
 use memory::WORDS;
 use model::buffer::TURN_WORDS;
+use turn_answers::put_turned;
 ghost use Rattle.kernelharp.specs.Run.{khTurn, Promise};
 
 #[no_mangle]

@@ -1,5 +1,5 @@
 // Answers, as text.
-use answers::many::MANY_STATUSES;
+use completion_answers::many::MANY_STATUSES;
 use libc::STDOUT_FILENO;
 use model::Completed;
 use model::CompletedMany;

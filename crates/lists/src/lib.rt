@@ -1,9 +1,9 @@
 // Completing a list of started requests of one port: all of them, or none. Two passes over the entries: the first reads what they name and writes nothing, the
 // second answers them. rsp_prod is stored once, behind the last response, and rsp_event read once, after that.
 use answers::magnitude;
-use answers::many::MANY_STATUSES;
 use answers::seen;
 use backend::free_tag;
+use completion_answers::many::MANY_STATUSES;
 use layout::ring_bytes;
 use layout::ring_size;
 use memory::WORDS;
@@ -101,7 +101,7 @@ fn finish_entry(
 {
     let x = memory::tag_at(memory, k, t as usize);
     memory::set_tag(memory, k, t as usize, free_tag());
-    let status = response::word_status(x.expected, result);
+    let status = status::word_status(x.expected, result);
     let pair = x.pair;
     response::put_response(page, abi, pages, index, pair, status);
     status

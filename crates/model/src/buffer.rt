@@ -30,6 +30,9 @@ pub const DONE_WORDS: usize = 4;
 // The words of the answer to a list of completions (rule 14.15).
 pub const MANY_WORDS: usize = 68;
 
+// The word of the answer to joining (rule 17.16).
+pub const JOIN_WORDS: usize = 1;
+
 // What a guest lends: its page, its own memory, a request, and words for the two answers (rules 16.1 and 16.16 to 16.19).
 pub const GUEST_PAGE_BYTES: usize = PAGE_BYTES;
 

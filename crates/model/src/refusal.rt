@@ -1,4 +1,4 @@
-// The numbers that calls are refused with (rules 7.1 to 7.7, 7.11 to 7.15, and 16.3 and 16.10 of the guest's half).
+// The numbers that calls are refused with (rules 7.1 to 7.7 and 7.11 to 7.15; 17.5 to 17.10 of joining; 16.3 and 16.10 of the guest's half).
 
 pub const WRONG_LENGTH: u32 = 1;
 
@@ -13,6 +13,13 @@ pub const IN_FLIGHT: u32 = 5;
 pub const NOT_BUSY: u32 = 6;
 
 pub const TOO_MANY: u32 = 7;
+
+// Those of joining.
+pub const TOO_FEW_FRAMES: u32 = 8;
+
+pub const TOO_FEW_RUNS: u32 = 9;
+
+pub const NO_PLAN: u32 = 10;
 
 // Those of a node sheet.
 pub const SHEET_SHAPE: u32 = 11;

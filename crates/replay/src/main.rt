@@ -25,7 +25,7 @@
 mod meters;
 
 use crate::meters::METERS;
-use answers::put_many;
+use completion_answers::put_many;
 use libc::STDIN_FILENO;
 use lines::input;
 use lines::input::NUMBERS;

@@ -1,12 +1,8 @@
-// A response: the status that it tells, its fields in the slot of our own index, and its publishing, with whether to notify the guest.
+// A response: its fields in the slot of our own index, and its publishing, with whether to notify the guest.
 // Of guest bytes it reads rsp_event alone, once: `write::publish`.
 mod page;
-mod status;
 mod write;
 
 pub use page::respond;
-pub use status::status_number;
-pub use status::status_of;
-pub use status::word_status;
 pub use write::publish;
 pub use write::put_response;

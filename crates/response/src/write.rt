@@ -1,5 +1,4 @@
 // A response written into a ring's pages, and published.
-use crate::status::status_number;
 use layout::RESPONSE_OPERATION;
 use layout::RESPONSE_PADDING;
 use layout::RESPONSE_STATUS;
@@ -9,6 +8,7 @@ use model::Abi;
 use model::Pages;
 use model::Pair;
 use model::Status;
+use status::status_number;
 ghost use mathlib.Core.Path.{_≡_};
 ghost use Prim.Native.Nat.{_+_, _-_, _≤_};
 ghost use lib.ListN.{length};

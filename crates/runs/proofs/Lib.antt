@@ -1,2 +1,11 @@
-pub mod Every
+pub mod Tests
+pub mod Extents
 pub mod Runs
+pub mod Search
+pub mod Judged
+pub mod Answered
+pub mod Filling
+pub mod Fewest
+pub mod Covers
+pub mod Theorem
+pub mod Cases

@@ -1,77 +1,90 @@
--- What holds of every run of the functions, and that every list of calls has one. Assumes nothing but what the theorem states, that lent bytes are bytes.
-use mathlib.Core.Path.{_≡_, refl, sym, ap, subst, _∙_}
+-- The runs of extents, one extent at a time from the front. Assumes nothing.
+use mathlib.Core.Path.{_≡_, refl, sym, _∙_, ap}
+use mathlib.Core.Bool.{Bool, true, false, cond}
 use mathlib.Core.List.{List, [], _∷_, map}
-use Prim.Native.Nat.{ℕ}
-use Rattle.model.specs.Backend.{Backend, viewOf, afterCall}
-use Rattle.model.specs.Calls.{Call, Effect, Event}
-use Rattle.model.specs.Demand.{All, LendsBytes}
-use Rattle.model.specs.History.{book, backendAfter}
-use Rattle.model.specs.Rules.{effectDue}
-use Rattle.model.proofs.Clean.{free-zero, closed-zero, closed-tags}
-use Rattle.model.proofs.Demand3.{demanded}
-use Rattle.model.proofs.Refinement.{Told, told-empty, told-step}
-use Rattle.memory.specs.Backend.{backendOf, memoryOf, Exact, Clean}
-use Rattle.memory.specs.Promise.{Promised}
-use Rattle.memory.specs.Words.{zeros}
-use Rattle.memory.proofs.Changes.{becomes-exact}
-use Rattle.memory.proofs.Zeros.{backend-zeros, zeros-exact, clean}
-use Rattle.runs.specs.Run.{CodeStep, callIn, CodeRun, codeHistory, codeMemory, CodeHolds, CodeRunOf, CodeTheorem}
-use Rattle.runs.proofs.Every.{outcome}
+use Prim.Native.Nat.{ℕ, zero, suc, _+_, _≤_}
+use native.Mathlib.Nat.{add-assoc, add-zero, zero-add}
+use native.Mathlib.Omega.{arith}
+use lib.ListN.{length}
+use Rattle.model.proofs.Base.{by-cond, clash}
+use Rattle.runs.specs.Join.{joinsNext, inFirst, groupsOf, totalLength, runOf, runsOf}
+use Rattle.runs.specs.declared.Run.{Run}
 
--- ---- of every run
+-- the first group begins with the first extent
+pub record Begun (e : Run) (groups : List (List Run)) : Type 0 where
+  pub more : List Run
+  pub others : List (List Run)
+  pub is : groups ≡ (e ∷ more) ∷ others
 
--- a call that kept its promise leaves the backend tied to the history, with the call's own event in it
-pub promised-told : (m : List ℕ) (h : List Event) (c : Call) (e : Effect c) (left : List ℕ) → LendsBytes c → Told (backendOf m) h → Promised m c e left
-    → Told (backendOf left) (record { call = c; effect = e } ∷ h)
-promised-told m h c e left y w p =
-    let event : (x : Effect c) → Event = λ x. record { call = c; effect = x } in
-    subst (λ (b : Backend). Told b (event e ∷ h)) (sym (p .memory .backend))
-    (subst (λ (x : Effect c). Told (afterCall (backendOf m) c) (event x ∷ h)) (sym (p .effect)) (told-step (backendOf m) h c y w))
+pub begun : (e : Run) (es : List Run) → Begun e (groupsOf (e ∷ es))
+unfolding groupsOf inFirst
+begun e es = by-test (joinsNext e es) (groupsOf es)
+  where
+    by-test : (b : Bool) (gs : List (List Run)) → Begun e (cond b (inFirst e gs) ((e ∷ []) ∷ gs))
+    by-test true [] = record { more = []; others = []; is = refl }
+    by-test true (g ∷ gs) = record { more = g; others = gs; is = refl }
+    by-test false gs = record { more = []; others = gs; is = refl }
 
-run-told : (m : List ℕ) (h : List Event) (run : List CodeStep) → CodeRun m run → All (λ s. LendsBytes (callIn s)) run → Told (backendOf m) h
-    → Told (backendOf (codeMemory m run)) (codeHistory h run)
-run-told m h [] r y w = w
-run-told m h (s ∷ run) r y w =
-    run-told (s .memory) (s .event ∷ h) run (r .1) (y .1) (promised-told m h (callIn s) (s .event .effect) (s .memory) (y .0) w (r .0))
+pub in-first : (e : Run) (g : List Run) (gs : List (List Run)) → inFirst e (g ∷ gs) ≡ (e ∷ g) ∷ gs
+unfolding inFirst
+in-first e g gs = refl
 
-run-exact : (m : List ℕ) (run : List CodeStep) → CodeRun m run → Exact m → Exact (codeMemory m run)
-run-exact m [] r x = x
-run-exact m (s ∷ run) r x = run-exact (s .memory) run (r .1) (becomes-exact (r .0 .memory) x)
+-- where the next does not join, a run ends
+pub runs-apart : (e : Run) (es : List Run) → joinsNext e es ≡ false → runsOf (e ∷ es) ≡ runOf (e ∷ []) ∷ runsOf es
+unfolding runsOf groupsOf
+runs-apart e es j = rw j
 
-run-backend : (m : List ℕ) (run : List CodeStep) → CodeRun m run → backendOf (codeMemory m run) ≡ backendAfter (backendOf m) (map callIn run)
-run-backend m [] r = refl
-run-backend m (s ∷ run) r = run-backend (s .memory) run (r .1) ∙ ap (λ (b : Backend). backendAfter b (map callIn run)) (r .0 .memory .backend)
+-- and where it does, the run goes on
+pub groups-joined : (e f : Run) (fs : List Run) → joinsNext e (f ∷ fs) ≡ true → groupsOf (e ∷ f ∷ fs) ≡ (e ∷ f ∷ begun f fs .more) ∷ begun f fs .others
+unfolding groupsOf
+groups-joined e f fs j = rw j (ap (inFirst e) (begun f fs .is) ∙ in-first e (f ∷ begun f fs .more) (begun f fs .others))
 
--- memory that is exact and tied to a history keeps only zeros for what is closed or free
-pub told-clean : (m : List ℕ) (h : List Event) → Exact m → Told (backendOf m) h → Clean m
-told-clean m h x w =
-    let b = backendOf m in
-    clean m x
-    (λ k c. (closed-zero (b .port k) (b .tag k) (book k h) (w .tied .ports k) c, closed-tags (b .port k) (b .tag k) (book k h) (w .tied .ports k) c))
-    (λ k t f. free-zero (b .port k) (b .tag k) (book k h) (w .tied .ports k) t f)
+-- ---- how many
 
-pub zeros-told : Told (backendOf zeros) []
-zeros-told = subst (λ (b : Backend). Told b []) (sym backend-zeros) told-empty
+pub count-apart : (e : Run) (es : List Run) → joinsNext e es ≡ false → length (runsOf (e ∷ es)) ≡ suc (length (runsOf es))
+count-apart e es j = ap length (runs-apart e es j)
 
-run-holds : (run : List CodeStep) → CodeRun zeros run → All (λ s. LendsBytes (callIn s)) run → CodeHolds run
-run-holds run r y =
-    let w = run-told zeros [] run r y zeros-told in
-    let x = run-exact zeros run r zeros-exact in
-    record {
-      demand3 = demanded (backendOf (codeMemory zeros run)) (codeHistory [] run) w;
-      memory = x ∙ ap memoryOf (run-backend zeros run r ∙ ap (λ (b : Backend). backendAfter b (map callIn run)) backend-zeros);
-      clean = told-clean (codeMemory zeros run) (codeHistory [] run) x w;
-    }
+pub count-joined : (e : Run) (es : List Run) → joinsNext e es ≡ true → length (runsOf (e ∷ es)) ≡ length (runsOf es)
+unfolding joinsNext runsOf
+count-joined e [] j = clash j refl
+count-joined e (f ∷ fs) j = ap (λ (gs : List (List Run)). length (map runOf gs)) (groups-joined e f fs j) ∙ sym (ap (λ (gs : List (List Run)). length (map runOf gs)) (begun f fs .is))
 
--- ---- every list of calls has a run
+-- by the test
+pub count-on : (e : Run) (es : List Run) → length (runsOf (e ∷ es)) ≡ cond (joinsNext e es) 0 1 + length (runsOf es)
+count-on e es = by-cond (λ k. length (runsOf (e ∷ es)) ≡ k + length (runsOf es)) (joinsNext e es) 0 1
+    (λ j. count-joined e es j ∙ sym (zero-add (length (runsOf es))))
+    (λ j. count-apart e es j ∙ one-more (length (runsOf es)))
+  where
+    one-more : (k : ℕ) → suc k ≡ 1 + k
+    one-more k = omega arith
 
-run-every : (m : List ℕ) → Exact m → (calls : List Call) → All LendsBytes calls → CodeRunOf m calls
-run-every m x [] y = record { steps = []; run = tt; made = refl }
-run-every m x (c ∷ calls) y =
-    let o = outcome m x c (y .0) in
-    let rest = run-every (o .left) (becomes-exact (o .promised .memory) x) calls (y .1) in
-    let s : CodeStep = record { event = record { call = c; effect = effectDue (viewOf (backendOf m)) c }; memory = o .left } in
-    record { steps = s ∷ rest .steps; run = (o .promised, rest .run); made = ap (λ (l : List Call). c ∷ l) (rest .made) }
+-- at most one run ends with an extent
+pub ending-one : (b : Bool) → cond b 0 1 ≤ 1
+ending-one true = omega arith
+ending-one false = omega arith
 
-pub code-theorem : CodeTheorem
-code-theorem = record { holds = run-holds; every = run-every zeros zeros-exact }
+pub count-none : length (runsOf []) ≡ 0
+unfolding runsOf groupsOf
+count-none = refl
+
+-- ---- the first one
+
+-- The runs, where k sectors from the start of e on stand before the first of them and belong to it.
+unfoldable pub behind : Run → ℕ → List Run → List Run
+behind e k [] = []
+behind e k (r ∷ rs) = record { frame = e .frame; first = e .first; length = k + r .length; sector = e .sector } ∷ rs
+
+pub behind-none : (e : Run) (es : List Run) → runsOf (e ∷ es) ≡ behind e 0 (runsOf (e ∷ es))
+unfolding runsOf behind runOf
+behind-none e es = rw (begun e es .is) (rw zero-add)
+
+module _ (e f : Run) (k : ℕ) where
+  pub behind-apart : (fs : List Run) → joinsNext f fs ≡ false
+      → behind e k (runsOf (f ∷ fs)) ≡ record { frame = e .frame; first = e .first; length = k + f .length; sector = e .sector } ∷ runsOf fs
+  unfolding behind runOf totalLength
+  behind-apart fs j = rw (runs-apart f fs j) (rw add-zero)
+
+  pub behind-joined : (fs : List Run) → joinsNext f fs ≡ true → behind e k (runsOf (f ∷ fs)) ≡ behind e (k + f .length) (runsOf fs)
+  unfolding joinsNext runsOf behind runOf totalLength
+  behind-joined [] j = clash j refl
+  behind-joined (g ∷ gs) j = rw (groups-joined f g gs j, begun g gs .is) (rw add-assoc)

@@ -1,1 +1,4 @@
-pub mod Run
+pub mod Join
+pub mod Found
+pub mod Answer
+pub mod Theorems

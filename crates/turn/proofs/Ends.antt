@@ -29,8 +29,8 @@ use Rattle.rotation.specs.Pick.{picked}
 use Rattle.rotation.specs.Idle.{Rested}
 use Rattle.rotation.specs.declared.pick.Pick.{Pick}
 use Rattle.rotation.proofs.Search.{pick-found, pick-none}
+use Rattle.serve.specs.Serve.{Turns}
 use Rattle.turn.specs.Promise.{TurnPromised}
-use Rattle.turn.specs.Serve.{Turns}
 
 -- a port with something to serve has a request waiting, or an overrun
 has-work : (v : View) (rings : List ℕ) (k : ℕ) → hasWork v rings k ≡ true → isWork (pendingAt v rings k) ≡ true

@@ -1,3 +1,1 @@
-pub mod Serving
-pub mod Taking
 pub mod Ends

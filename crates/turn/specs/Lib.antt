@@ -1,2 +1,1 @@
-pub mod Serve
 pub mod Promise

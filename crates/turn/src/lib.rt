@@ -19,8 +19,6 @@ ghost use Rattle.model.specs.Plan.{planWords};
 ghost use Rattle.memory.specs.Promise.{Promised};
 ghost use Rattle.turn.specs.Promise.{TurnPromised};
 
-mod serve;
-
 // A turn whose extents go to `words`. Of the rings it reads each open port's req_prod as far as it looks, once; of the port that it serves one slot, once; and
 // rsp_event, once, where it responds.
 fn turn_into(

@@ -1,5 +1,5 @@
 //! The benchmark: the archive's calls and the second program's, on full rings of reads and on node
-//! sheets with numbers; and the archive's guest's half.
+//! sheets with numbers; the archive's guest's half; and its joining of extents to runs.
 //!
 //! - `bench times`: nanoseconds a request of both programs, over many runs of `bench sample LOAD`.
 //! - `bench numbers`: nanoseconds an opening, over many runs of `bench sample DIGITS`.
@@ -13,6 +13,7 @@
 //!   entries, likewise.
 //! - `bench rounds archive DIGITS ROUNDS`: rounds of eight openings, likewise.
 //! - `bench rounds guest RING ROUNDS`: rounds of a ring filled and emptied by a guest, likewise.
+//! - `bench rounds runs EXTENTS together|apart ROUNDS`: rounds of one joining, likewise.
 //!
 //! LOAD is SEGMENTS PORTS RINGS, where the rings of the guests are `64-bit`, `32-bit`, or `both` by
 //! turns, of one page each, or `64-bit-two-page` or `32-bit-two-page`; for rounds, SECTOR-SIZE LENGTH may
@@ -25,6 +26,7 @@ mod lists;
 mod load;
 mod numbers;
 mod programs;
+mod runs;
 mod samples;
 #[allow(unsafe_code)]
 mod stack;
@@ -53,6 +55,9 @@ fn main() {
         ["rounds", "guest", segments, requests, order, rounds] => {
             guest::run(ring(segments, requests, order), number(rounds))
         }
+        ["rounds", "runs", extents, place @ ("together" | "apart"), rounds] => {
+            runs::run(number(extents), place == "together", number(rounds))
+        }
         ["sample", segments, ports, rings] => times::sample(load(segments, ports, rings)),
         ["numbers"] => numbers::print(),
         ["sample", digits] => numbers::sample(number(digits)),
@@ -66,7 +71,7 @@ fn main() {
             run_program(program, load, number(rounds))
         }
         _ => panic!(
-            "times, numbers, guest, lists, memory, sample LOAD|DIGITS|guest RING|lists LOAD LENGTH, rounds archive|metered|second LOAD ROUNDS, rounds lists|metered-lists LOAD LENGTH ROUNDS, rounds archive DIGITS ROUNDS, or rounds guest RING ROUNDS; LOAD is SEGMENTS PORTS RINGS, for rounds also with SECTOR-SIZE LENGTH, RING is SEGMENTS REQUESTS ORDER"
+            "times, numbers, guest, lists, memory, sample LOAD|DIGITS|guest RING|lists LOAD LENGTH, rounds archive|metered|second LOAD ROUNDS, rounds lists|metered-lists LOAD LENGTH ROUNDS, rounds archive DIGITS ROUNDS, rounds guest RING ROUNDS, or rounds runs EXTENTS together|apart ROUNDS; LOAD is SEGMENTS PORTS RINGS, for rounds also with SECTOR-SIZE LENGTH, RING is SEGMENTS REQUESTS ORDER"
         ),
     }
 }

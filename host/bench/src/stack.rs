@@ -1,13 +1,14 @@
 //! Memory: the stack that a call of the archive needs, found by running it on a painted one.
 
 use crate::guest::{Calls, Load, Order, Ring};
+use crate::runs::Joining;
 use generate::{run, Core, List};
-use kernelharp::layout::PAGE_SLOTS;
+use kernelharp::layout::{EXTENTS, PAGE_SLOTS};
 use kernelharp::words::{
     entry, CollectWords, DoneWords, ManyWords, PutWords, RequestWords, TurnWords, DONE_WORDS,
     MANY_WORDS, REQUEST_WORDS, TURN_WORDS,
 };
-use kernelharp::{Completion, GuestMemory, Memory, Meter, GUEST_WORDS, MEMORY_WORDS};
+use kernelharp::{Completion, GuestMemory, Memory, Meter, Run, GUEST_WORDS, MEMORY_WORDS};
 use second::Backend;
 use std::arch::asm;
 
@@ -15,6 +16,7 @@ const STACK_WORDS: usize = 2048;
 const PAINT: u64 = 0x5AFE_C0DE_5AFE_C0DE;
 const CALLS: u64 = 200_000;
 const SEED: u64 = 1;
+const RUN_WORDS: usize = size_of::<Run>() / 8;
 
 extern "C" {
     fn kh_open();
@@ -24,6 +26,7 @@ extern "C" {
     fn kh_complete_many();
     fn kh_guest_put();
     fn kh_guest_collect();
+    fn kh_join_extents();
 }
 
 /// Rounds of a guest on a ring.
@@ -172,6 +175,25 @@ fn guest_depths() -> [usize; 2] {
     deepest
 }
 
+/// The most bytes of stack that joining writes, of extents that join and of others.
+fn joining_depth() -> usize {
+    let (mut stack, mut deepest) = (Stack::new(), 0);
+    for count in 1..=EXTENTS {
+        for together in [true, false] {
+            Joining::new(count, together).join(|extents, count, frames, runs, answer| {
+                let (first, words) = (extents.as_ptr().cast_mut(), extents.len() as u64);
+                let ([frames, frame_count], [answer, _]) = (lent(frames), lent_mut(answer));
+                let [runs, run_count] = lent_mut(runs);
+                let arguments = [words, count, frames, frame_count, runs, run_count, answer];
+                // SAFETY: kh_join_extents' arguments; each pointer and length are one slice's, the
+                // answer has its fixed length, and all that is written is lent by &mut.
+                unsafe { stack.call(kh_join_extents, first, arguments, &mut deepest) }
+            });
+        }
+    }
+    deepest
+}
+
 /// Address and length of what a call may read.
 fn lent<T>(slice: &[T]) -> [u64; 2] {
     [slice.as_ptr().expose_provenance(), slice.len()].map(|number| number as u64)
@@ -243,13 +265,14 @@ impl Core for Painted {
 }
 
 /// The sizes of what host and guest lend, and the stack of each call: of a backend's over a random list
-/// of calls, of a guest's over rings that are filled and emptied.
+/// of calls, of a guest's over rings that are filled and emptied, of joining over plans of every length.
 pub fn print() {
     let mut painted = Painted::new();
     let run = run(&mut [&mut painted, &mut Backend::new()], SEED, CALLS);
     run.unwrap_or_else(|failure| panic!("{failure}"));
     let [open, close, turn, complete, list] = painted.deepest;
     let [put, collect] = guest_depths();
+    let joining = joining_depth();
     println!("| memory | bytes |");
     println!("|---|---|");
     for (name, words) in [
@@ -260,6 +283,7 @@ pub fn print() {
         ("a list's answer", MANY_WORDS),
         ("guest memory", GUEST_WORDS),
         ("a request to be put", REQUEST_WORDS),
+        ("a run", RUN_WORDS),
     ] {
         println!("| {name}, {words} words | {} |", 8 * words);
     }
@@ -271,6 +295,7 @@ pub fn print() {
         ("close", close),
         ("put", put),
         ("collect", collect),
+        ("joining", joining),
     ] {
         println!("| stack of a call: {name} | {bytes} |");
     }

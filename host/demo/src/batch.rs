@@ -1,6 +1,6 @@
 //! What a guest asks for in one round: requests, the bytes that go with them, and what is due back.
 
-use crate::link::{Frames, FRAME_SECTORS, NO_FRAME, READ_ONLY_FRAMES, READ_WRITE_FRAMES};
+use crate::frames::{Frames, FRAME_SECTORS, NO_FRAME, READ_ONLY_FRAMES, READ_WRITE_FRAMES};
 use crate::pattern::{Model, SECTOR};
 use crate::profile::Profile;
 use crate::wish::{Wish, With};

@@ -1,9 +1,9 @@
 //! A disk image in a file, and what a plan does to it.
 
-use crate::link::Frames;
+use crate::frames::Frames;
 use crate::pattern::{Model, SECTOR};
 use crate::profile::Profile;
-use kernelharp::{Operation, Plan};
+use kernelharp::{Operation, Plan, Run};
 use std::fs::{File, OpenOptions};
 use std::io;
 use std::ops::Range;
@@ -28,6 +28,10 @@ pub struct Disk {
     bad: Range<u64>,
     /// Where bytes rest between the file and frames that the guest can write.
     buffer: Vec<u8>,
+    /// Calls that moved bytes to or from the medium, one to a run, and how many one to an extent would
+    /// have been.
+    pub calls: u64,
+    pub extents: u64,
 }
 
 impl Disk {
@@ -41,6 +45,8 @@ impl Disk {
             discards: profile.discards,
             bad: profile.bad.clone(),
             buffer: vec![0; MOST_BYTES],
+            calls: 0,
+            extents: 0,
         };
         let mut bytes = [0; SECTOR];
         for (sector, &version) in (0..).zip(model.versions(0, disk.sectors)) {
@@ -52,14 +58,15 @@ impl Disk {
         Ok(disk)
     }
 
-    /// Does what a plan asks for and gives the result to complete it with.
-    pub fn carry_out(&mut self, plan: &Plan, frames: &Frames) -> i32 {
+    /// Does what a plan asks for, moves its bytes run by run, and gives the result to complete it with.
+    pub fn carry_out(&mut self, plan: &Plan, runs: &[Run], frames: &Frames) -> i32 {
         if plan.start < self.bad.end && self.bad.start < plan.start + plan.count {
             return INPUT_OUTPUT_ERROR;
         }
+        self.extents += plan.extents().len() as u64;
         let done = match plan.operation {
-            Operation::Read => self.read(plan, frames),
-            Operation::Write | Operation::Barrier => self.write(plan, frames),
+            Operation::Read => self.read(runs, frames),
+            Operation::Write | Operation::Barrier => self.write(runs, frames),
             Operation::Flush => self.file.sync_data(),
             Operation::Discard if self.discards => self.zero(plan),
             // A medium without discards, and operations that this host does not know.
@@ -71,21 +78,24 @@ impl Disk {
         }
     }
 
-    fn read(&mut self, plan: &Plan, frames: &Frames) -> io::Result<()> {
-        let bytes = &mut self.buffer[..offset(plan.count) as usize];
-        self.file.read_exact_at(bytes, offset(plan.start))?;
-        for (extent, place) in places(plan) {
-            frames.write(extent.0, extent.1, &bytes[place]);
+    fn read(&mut self, runs: &[Run], frames: &Frames) -> io::Result<()> {
+        for run in runs {
+            let bytes = &mut self.buffer[..offset(run.length) as usize];
+            self.calls += 1;
+            self.file.read_exact_at(bytes, offset(run.sector))?;
+            frames.write_machine(run.frame, run.first, bytes);
         }
         Ok(())
     }
 
-    fn write(&mut self, plan: &Plan, frames: &Frames) -> io::Result<()> {
-        let bytes = &mut self.buffer[..offset(plan.count) as usize];
-        for (extent, place) in places(plan) {
-            frames.read(extent.0, extent.1, &mut bytes[place]);
+    fn write(&mut self, runs: &[Run], frames: &Frames) -> io::Result<()> {
+        for run in runs {
+            let bytes = &mut self.buffer[..offset(run.length) as usize];
+            frames.read_machine(run.frame, run.first, bytes);
+            self.calls += 1;
+            self.file.write_all_at(bytes, offset(run.sector))?;
         }
-        self.file.write_all_at(bytes, offset(plan.start))
+        Ok(())
     }
 
     /// A discard, secure or not: zeros are written over what was there.
@@ -119,16 +129,6 @@ impl Disk {
         }
         Ok(offset(sectors - first))
     }
-}
-
-/// The extents of a plan as frame and first sector, each with its place among the plan's bytes.
-fn places(plan: &Plan) -> impl Iterator<Item = ((u32, usize), Range<usize>)> + '_ {
-    plan.extents().iter().map(|extent| {
-        let begin = offset(extent.disk_sector - plan.start) as usize;
-        let length = usize::from(extent.length) * SECTOR;
-        let from = (extent.frame, usize::from(extent.first_sector));
-        (from, begin..begin + length)
-    })
 }
 
 fn offset(sectors: u64) -> u64 {

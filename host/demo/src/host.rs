@@ -1,15 +1,16 @@
 //! The host: turns, the I/O of the plans, completions; opening, draining and closing ports.
 
 use crate::disk::Disk;
-use crate::link::{grants, Link, State, BOUND};
+use crate::frames::{grants, Frames};
+use crate::link::{Link, State, BOUND};
 use crate::profile::Profile;
 use crate::report::{Counts, Progress};
 use frontend::EventChannel;
 use generate::Random;
-use kernelharp::layout::{ENTRIES, PORTS};
+use kernelharp::layout::{ENTRIES, EXTENTS, PORTS};
 use kernelharp::live::LiveBackend;
 use kernelharp::{
-    Abi, Entry, Extent, Name, Operation, Pages, Plan, Port, Refusal, Sheet, Status, Turn,
+    Abi, Entry, Extent, Name, Operation, Pages, Plan, Port, Refusal, Run, Sheet, Status, Turn,
 };
 
 /// Turns in a row before the host goes on with the I/O.
@@ -171,7 +172,8 @@ impl<'a> Host<'a> {
 
     /// Does so much of a port's I/O, and completes it in one call, as a disk's interrupt brings it.
     fn carry_out(&mut self, port: Port, plans: usize) -> Result<(), String> {
-        let ended: Vec<Ended> = (0..plans).map(|_| self.carry_out_one(port)).collect();
+        let ended = (0..plans).map(|_| self.carry_out_one(port));
+        let ended = ended.collect::<Result<Vec<Ended>, String>>()?;
         let Some((last, _)) = ended.last() else {
             return Ok(());
         };
@@ -204,13 +206,16 @@ impl<'a> Host<'a> {
 
     /// Carries out one plan of a port that has some, in any order but across a barrier: what was
     /// started before a barrier is done before it, and what was started after it, after it.
-    fn carry_out_one(&mut self, port: Port) -> Ended {
+    fn carry_out_one(&mut self, port: Port) -> Result<Ended, String> {
         let held = &mut self.held[port.index()];
         let is_barrier = |plan: &Plan| plan.operation == Operation::Barrier;
         let before = held.iter().position(is_barrier).unwrap_or(held.len());
         let plan = held.remove(self.random.index(before.max(1)));
-        let result = self.disks[port.index()].carry_out(&plan, &self.links[port.index()].frames);
-        (plan, result)
+        let frames = &self.links[port.index()].frames;
+        let mut runs = [Run::default(); EXTENTS];
+        let runs = join(&plan, frames, &mut runs)?;
+        let result = self.disks[port.index()].carry_out(&plan, runs, frames);
+        Ok((plan, result))
     }
 
     /// Completes a request a second time, and an older one too: both must be refused.
@@ -277,6 +282,18 @@ fn entries(ended: &[Ended]) -> Vec<Entry> {
         .collect()
 }
 
+/// What lies together both in the machine and on the disk, for one disk call each.
+fn join<'runs>(
+    plan: &Plan,
+    frames: &Frames,
+    runs: &'runs mut [Run],
+) -> Result<&'runs [Run], String> {
+    let extents = plan.extents().iter();
+    let machine_frames: Vec<u64> = extents.map(|it| frames.machine_frame(it.frame)).collect();
+    let joined = plan.join(&machine_frames, runs);
+    joined.map_err(|refusal| format!("joining of {plan}: {refusal}"))
+}
+
 /// No medium reads or writes a part of one of its sectors.
 fn check_boundaries(plan: &Plan, unit: u64) -> Result<(), String> {
     let whole = |extent: &Extent| {
@@ -297,17 +314,46 @@ mod tests {
     use super::*;
     use kernelharp::words::{extent, kind, turn, TURN_WORDS};
 
-    #[test]
-    fn a_plan_of_two_halves_is_found() {
+    /// A read of two extents.
+    fn plan_of(extents: [[u64; extent::WORDS]; 2]) -> Plan {
         let mut words = [0; TURN_WORDS];
         (words[turn::KIND], words[turn::COUNT]) = (kind::STARTED, 8);
         words[turn::EXTENT_COUNT] = 2;
-        words[turn::EXTENTS..][..2 * extent::WORDS].copy_from_slice(&[5, 0, 4, 0, 5, 4, 4, 4]);
+        words[turn::EXTENTS..][..2 * extent::WORDS].copy_from_slice(extents.as_flattened());
         let Some(Turn::Started(plan)) = Turn::from_words(&words) else {
             panic!("a start")
         };
+        plan
+    }
+
+    #[test]
+    fn a_plan_of_two_halves_is_found() {
+        let plan = plan_of([[5, 0, 4, 0], [5, 4, 4, 4]]);
         check_boundaries(&plan, 4).unwrap();
         let fault = check_boundaries(&plan, 8).unwrap_err();
         assert!(fault.ends_with(" asks for parts of a sector"), "{fault}");
+    }
+
+    /// The lengths of the runs of two extents in frames 5 and 6, the first of which has a number.
+    fn joined(number: u64, extents: [[u64; extent::WORDS]; 2]) -> Result<Vec<u64>, String> {
+        let frames = Frames::new(number - 5, &mut Random::new(1));
+        let mut runs = [Run::default(); EXTENTS];
+        let joined = join(&plan_of(extents), &frames, &mut runs)?;
+        Ok(joined.iter().map(|run| run.length).collect())
+    }
+
+    #[test]
+    fn extents_of_neighbouring_frames_are_joined() {
+        let whole = [[5, 0, 8, 0], [6, 0, 8, 8]];
+        assert_eq!(joined(70, whole), Ok(vec![16]));
+        // The machine's last frame has no next.
+        assert_eq!(joined(u64::MAX, whole), Ok(vec![8, 8]));
+        assert_eq!(joined(70, [[5, 0, 4, 0], [6, 0, 8, 4]]), Ok(vec![4, 8]));
+    }
+
+    #[test]
+    fn a_plan_that_is_not_joined_is_a_fault() {
+        let fault = joined(70, [[5, 0, 8, 0], [6, 0, 8, 9]]).unwrap_err();
+        assert!(fault.starts_with("joining of port 0, "), "{fault}");
     }
 }

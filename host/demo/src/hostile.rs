@@ -3,7 +3,8 @@
 //! moved back and at last far ahead. Then it connects again, with another ring.
 
 use crate::batch::{BARRIER, DISCARD, READ, WRITE};
-use crate::link::{Link, State, BOUND, FRAME_SECTORS, READ_ONLY_FRAMES, READ_WRITE_FRAMES};
+use crate::frames::{FRAME_SECTORS, READ_ONLY_FRAMES, READ_WRITE_FRAMES};
+use crate::link::{Link, State, BOUND};
 use crate::pattern::Model;
 use crate::report::Checks;
 use frontend::{EventChannel, Request};

@@ -6,6 +6,7 @@
 
 mod batch;
 mod disk;
+mod frames;
 mod front;
 mod guest;
 mod host;
@@ -39,7 +40,8 @@ fn main() -> ExitCode {
     println!("32-bit records, two pages or both, by a plain front end; one is hostile and comes");
     println!("back each time with a ring of another layout or size. Every id is to be answered");
     println!("once, every byte to be read back as it was written, and every meter to count what");
-    println!("its guest saw.");
+    println!("its guest saw. What lies together in the machine's memory and on a disk is moved by");
+    println!("one disk call.");
     match demo(seed, rounds) {
         Ok(()) => ExitCode::SUCCESS,
         Err(fault) => {

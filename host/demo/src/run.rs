@@ -1,6 +1,7 @@
 //! One run: images, links, the host and its guests put together, and the verdict.
 
 use crate::disk::Disk;
+use crate::frames::{begin_of, Frames};
 use crate::guest::Guest;
 use crate::host::Host;
 use crate::hostile::Hostile;
@@ -28,6 +29,7 @@ pub fn demo(folder: &Path, seed: u64, rounds: u64) -> Result<(), String> {
     let (counts, ends) = play(&profiles, &mut disks, models, seed, rounds)?;
     let checks: Vec<Checks> = ends.iter().map(|end| end.0).collect();
     print_table(&profiles, &counts, &checks);
+    print_disk_calls(&disks);
     check_secure(&counts, &ends)?;
     check_meters(&counts, &ends)?;
     println!(
@@ -49,12 +51,9 @@ fn play(
     seed: u64,
     rounds: u64,
 ) -> Result<(Counts, Vec<End>), String> {
-    let links: [Link; PORTS] = std::array::from_fn(|port| {
-        let sheet = profiles[port].sheet;
-        Link::new(sheet.abi, sheet.pages)
-    });
     let (bell, mut progress) = (EventChannel::new(), Progress::new(rounds));
     let random = |part: usize| Random::new(seed.wrapping_mul(16).wrapping_add(part as u64));
+    let links = links(profiles, random(PORTS + 1));
     let mut host = Host::new(profiles, &links, &bell, disks, random(PORTS))?;
     // A ring is set up before its port is opened.
     let mut players = Vec::new();
@@ -79,6 +78,15 @@ fn play(
     served?;
     let ends: Result<Vec<End>, String> = ends.into_iter().collect();
     Ok((host.counts, ends?))
+}
+
+/// The guests' connections, their frames spread over the machine's memory.
+fn links(profiles: &[Profile], mut random: Random) -> [Link; PORTS] {
+    std::array::from_fn(|port| {
+        let sheet = profiles[port].sheet;
+        let frames = Frames::new(begin_of(port), &mut random);
+        Link::new(sheet.abi, sheet.pages, frames)
+    })
 }
 
 /// A guest of either kind.
@@ -130,6 +138,13 @@ fn disks(folder: &Path, profiles: &[Profile], models: &[Model]) -> Result<Vec<Di
         disks.push(disk.map_err(|fault| format!("{}: {fault}", path.display()))?);
     }
     Ok(disks)
+}
+
+/// How many disk calls moved the bytes, beside one to each extent.
+fn print_disk_calls(disks: &[Disk]) {
+    let calls: u64 = disks.iter().map(|disk| disk.calls).sum();
+    let extents: u64 = disks.iter().map(|disk| disk.extents).sum();
+    println!("disk calls to move data: {extents} if each extent had its own, {calls} with extents joined to runs");
 }
 
 /// Holds the plans with the secure mark against the secure discards that the guests are due.

@@ -33,6 +33,14 @@ fn line<'a>(text: &'a str, begin: &str) -> &'a str {
     found.unwrap_or_else(|| panic!("no line {begin:?} in\n{text}"))
 }
 
+/// The numbers in a line, whatever stands between them.
+fn numbers<const COUNT: usize>(text: &str, begin: &str) -> [f64; COUNT] {
+    let line = line(text, begin).replace(',', "");
+    let words = line.split_whitespace();
+    let numbers: Vec<f64> = words.filter_map(|word| word.parse().ok()).collect();
+    numbers.try_into().unwrap_or_else(|_| panic!("{line}"))
+}
+
 /// The figures of a row: taken, okay, error, not supported, MiB moved, overruns, ids checked, MiB
 /// checked.
 fn figures(text: &str, begin: &str) -> Vec<f64> {
@@ -81,21 +89,7 @@ fn the_demo_runs_small() {
         assert_eq!(pair[1] == "withdrawn", number == 23);
     }
     assert_eq!(reasons.len(), 18);
-    // Several completions to a call, and at least as many to a notice as to a call.
-    let completions = line(&text, "completions: ").replace(',', "");
-    let words = completions.split_whitespace();
-    let figures: Vec<u64> = words.filter_map(|word| word.parse().ok()).collect();
-    let [done, calls, longest, refused] = figures[..] else {
-        panic!("{completions}");
-    };
-    assert!(calls < done && (2..=64).contains(&longest) && refused > 0);
-    let notices = line(&text, "notices of completions: ").replace(',', "");
-    let words = notices.split_whitespace();
-    let figures: Vec<f64> = words.filter_map(|word| word.parse().ok()).collect();
-    let [notices, ratio] = figures[..] else {
-        panic!("{notices}");
-    };
-    assert!(notices > 0.0 && notices <= calls as f64 && ratio > 1.0);
+    check_calls(&text);
     let secure = line(&text, "secure discards: ");
     assert!(!secure.contains(" 0 "), "{secure}");
     line(&text, "days rolled by the boards: 2,");
@@ -105,6 +99,17 @@ fn the_demo_runs_small() {
     assert!(!zeroed.contains(" 0 period ends"), "{zeroed}");
     line(&text, "images: ");
     line(&text, "Every check held, in ");
+}
+
+/// Several completions to a call, at least as many to a notice as to a call, and several extents to a disk
+/// call.
+fn check_calls(text: &str) {
+    let [done, calls, longest, refused] = numbers(text, "completions: ");
+    assert!(calls < done && (2.0..=64.0).contains(&longest) && refused > 0.0);
+    let [notices, ratio] = numbers(text, "notices of completions: ");
+    assert!(notices > 0.0 && notices <= calls && ratio > 1.0);
+    let [extents, runs] = numbers(text, "disk calls to move data: ");
+    assert!(runs > 0.0 && runs < extents);
 }
 
 /// What the host and the hostile guest do hangs on the moment, what the others do on the seed.

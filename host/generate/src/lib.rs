@@ -5,7 +5,8 @@
 //! The other programs get the very same steps, and [`run`] stops at the first difference. Beside the
 //! calls, the host hands each answer over to a record of counters, and zeroes records; and ports that were
 //! just opened are set to indices that calls would take too long to reach. The guest's half
-//! has lists of its own ([`run_guests`]), and lists on one page with a backend ([`run_halves`]).
+//! has lists of its own ([`run_guests`]), and lists on one page with a backend ([`run_halves`]); and so has
+//! the joining of extents to runs ([`run_joins`]).
 //!
 //! To compare another program, implement [`Core`] for it and run it beside the second program:
 //!
@@ -21,6 +22,7 @@ mod census;
 mod generator;
 mod guest;
 mod halves;
+mod joining;
 mod meters;
 mod programs;
 mod random;
@@ -39,6 +41,10 @@ pub use guest::{
     GuestStep, PageWrite,
 };
 pub use halves::{run_halves, Halves, HalvesReport};
+pub use joining::{
+    check_runs, join_by_archive, join_by_second, run_joins, JoinCensus, JoinGenerator, Joiner,
+    Joining,
+};
 pub use meters::{meter_of, numbers};
 pub use programs::{done_words, for_second, many_words, turn_words, Core, List};
 pub use random::Random;

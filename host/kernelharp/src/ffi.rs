@@ -3,7 +3,10 @@
 
 use crate::layout::PAGE_BYTES;
 use crate::names::{Name, Serial, Tag};
-use crate::words::{entry, CollectWords, DoneWords, ManyWords, PutWords, RequestWords, TurnWords};
+use crate::runs::Run;
+use crate::words::{
+    entry, CollectWords, DoneWords, JoinWords, ManyWords, PutWords, RequestWords, TurnWords,
+};
 use std::fmt;
 use std::ptr::NonNull;
 use std::slice;
@@ -11,7 +14,7 @@ use std::sync::atomic::AtomicU32;
 
 /// The version that this package was built for, as `kh_version` gives it: major x 10,000 + minor x
 /// 100 + patch.
-pub const VERSION: u32 = 900;
+pub const VERSION: u32 = 1000;
 /// How many words of backend memory this package was built for (`KH_MEMORY_WORDS`).
 pub const MEMORY_WORDS: usize = 2153;
 /// How many words of guest memory this package was built for (`KH_GUEST_WORDS`).
@@ -62,6 +65,16 @@ extern "C" {
     fn kh_meter_turn(meter: *mut Meter, returned: u32, answer: *const u64);
     fn kh_meter_completion(meter: *mut Meter, returned: u32, answer: *const u64);
     fn kh_meter_many(meter: *mut Meter, returned: u32, answer: *const u64);
+    fn kh_join_extents(
+        extents: *const u64,
+        extent_words: usize,
+        extent_count: u64,
+        machine_frames: *const u64,
+        frame_count: usize,
+        runs: *mut Run,
+        run_count: usize,
+        answer: *mut u64,
+    ) -> u32;
 }
 
 /// The archive that was linked is another than this package was built for.
@@ -398,6 +411,36 @@ impl fmt::Display for Meter {
         write!(
             f,
             "taken {taken}, okay {okay}, error {error}, not supported {not_supported}"
+        )
+    }
+}
+
+/// `kh_join_extents`: gives 0 and the number of runs, which stand at the front of `runs`, else the
+/// refusal's number; a refused call leaves `runs` and the answer alone.
+///
+/// Extents are words, four to a place, from [`crate::words::turn::EXTENTS`] on in a turn's answer, and
+/// `extent_count` of the places are looked at. Words, numbers and lengths may be any.
+/// [`crate::Plan::join`] joins those of a plan.
+pub fn join_extents(
+    extents: &[u64],
+    extent_count: u64,
+    machine_frames: &[u64],
+    runs: &mut [Run],
+    answer: &mut JoinWords,
+) -> u32 {
+    let (run_count, runs) = (runs.len(), runs.as_mut_ptr());
+    // SAFETY: each pointer and length are one slice's; `Run` is laid out as `kh_run`; the answer has its
+    // fixed length; and no two of them overlap, for all that is written is lent by &mut.
+    unsafe {
+        kh_join_extents(
+            extents.as_ptr(),
+            extents.len(),
+            extent_count,
+            machine_frames.as_ptr(),
+            machine_frames.len(),
+            runs,
+            run_count,
+            answer.as_mut_ptr(),
         )
     }
 }

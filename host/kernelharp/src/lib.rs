@@ -4,13 +4,14 @@
 //! - [`Backend`]: the calls over private buffers that it owns, with typed answers ([`Turn`],
 //!   [`Plan`], [`Done`], and [`DoneMany`] of a list of [`Entry`]s) and refusals as errors ([`Refusal`]).
 //!   Each port has its [`Meter`], which the calls raise ([`Backend::meter`], [`Backend::take_meter`]).
+//! - [`Plan::join`]: a plan's extents joined to [`Run`]s, for fewer disk calls.
 //! - [`Guest`]: the guest's half, for guest images: it puts a [`Request`] and collects a [`Response`].
 //! - [`live`]: backend and guest over rings that the other side may write at the same time.
 //! - [`Sheet`]: node sheets from a disk's properties, its guest's layout ([`Abi`]) and the pages of its
 //!   ring ([`Pages`]).
 //! - [`Memory`]: the C functions over slices of any length, for tests and for hosts with buffers of
 //!   their own; its answers are words, which [`words`] names, and such a host hands them to its
-//!   [`Meter`]s itself. [`GuestMemory`]: the same of the guest's half.
+//!   [`Meter`]s itself. [`GuestMemory`]: the same of the guest's half; [`join_extents`]: of joining.
 //! - [`layout`]: sizes and places of buffers, rings and slots, the latter by [`Abi`] and [`Pages`].
 //!
 //! A guest has 64-bit or 32-bit records, and a ring of one page or of two. Each port is opened for one of
@@ -33,6 +34,7 @@ mod guest;
 pub mod layout;
 pub mod live;
 mod names;
+mod runs;
 mod sheet;
 mod terms;
 pub mod words;
@@ -40,11 +42,12 @@ pub mod words;
 pub use answers::{Done, DoneMany, Extent, Plan, Turn};
 pub use backend::Backend;
 pub use ffi::{
-    ArchiveMismatch, Completion, Entry, GuestMemory, Memory, Meter, GUEST_WORDS, MEMORY_WORDS,
-    VERSION,
+    join_extents, ArchiveMismatch, Completion, Entry, GuestMemory, Memory, Meter, GUEST_WORDS,
+    MEMORY_WORDS, VERSION,
 };
 pub use guest::{Guest, Request, Response, Segment};
 pub use layout::{Abi, Pages};
 pub use names::{Name, Port, Serial, Tag};
+pub use runs::Run;
 pub use sheet::Sheet;
 pub use terms::{Operation, Reason, Refusal, Status};

@@ -43,8 +43,8 @@ macro_rules! numbered {
 }
 
 numbered! {
-    /// What a refused call answers (section 7 of the rules; 31 to 35 are of the guest's half, section
-    /// 16, and 1 is of both).
+    /// What a refused call answers (section 7 of the rules; 8 to 10 are of joining, section 17; 31 to 35
+    /// are of the guest's half, section 16, and 1 is of both halves).
     Refusal, "refusal":
     WrongLength = 1, "a lent buffer has the wrong length";
     NoPort = 2, "port above 7";
@@ -53,6 +53,9 @@ numbered! {
     InFlight = 5, "requests in flight";
     NotBusy = 6, "tag beyond the ring's slots, not busy, another serial, or named twice";
     TooMany = 7, "more than 64 completions";
+    TooFewFrames = 8, "fewer machine frames than extents";
+    TooFewRuns = 9, "fewer run records than runs";
+    NoPlan = 10, "more extents than places, or one empty, past its frame, past 2^64 - 1, or not next on the disk";
     SheetShape = 11, "sheet empty, more than 9 entries, a reserved byte not 0, wrong total length";
     SheetNodes = 12, "node 0, above 9, or not rising";
     SheetText = 13, "a text that node 1 to 5 or 8 does not know, or no number in 6, 7 or 9";
@@ -198,8 +201,10 @@ mod tests {
             .map(|refusal| refusal as u32)
             .collect();
         let of_a_backend = [1, 2, 3, 4, 5, 6, 7, 11, 12, 13, 14, 15];
-        let of_a_guest = [31, 32, 33, 34, 35];
-        assert_eq!(refusals, [&of_a_backend[..], &of_a_guest].concat());
+        let (of_joining, of_a_guest) = ([8, 9, 10], [31, 32, 33, 34, 35]);
+        let mut due = [&of_a_backend[..], &of_joining, &of_a_guest].concat();
+        due.sort();
+        assert_eq!(refusals, due);
         let reasons: Vec<u32> = (0..100)
             .filter_map(Reason::from_number)
             .map(|reason| reason as u32)

@@ -8,6 +8,8 @@ pub const TURN_WORDS: usize = 64;
 pub const DONE_WORDS: usize = 4;
 /// How many words a list of completions answers with.
 pub const MANY_WORDS: usize = many::STATUSES + ENTRIES;
+/// How many words joining answers with: the number of runs.
+pub const JOIN_WORDS: usize = 1;
 /// How many words a request has that a guest puts.
 pub const REQUEST_WORDS: usize = 41;
 /// How many words putting answers with.
@@ -21,6 +23,8 @@ pub type TurnWords = [u64; TURN_WORDS];
 pub type DoneWords = [u64; DONE_WORDS];
 /// The answer of a list of completions.
 pub type ManyWords = [u64; MANY_WORDS];
+/// The answer of joining.
+pub type JoinWords = [u64; JOIN_WORDS];
 /// A request that a guest puts.
 pub type RequestWords = [u64; REQUEST_WORDS];
 /// The answer of putting.

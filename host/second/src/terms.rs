@@ -1,6 +1,6 @@
 //! Refusals, reasons, statuses and operations, by their numbers.
 
-/// Sections 7 and 16: what a refused call answers.
+/// Sections 7, 16 and 17: what a refused call answers.
 #[derive(Clone, Copy, Debug, PartialEq, Eq)]
 pub enum Refusal {
     /// Rule 7.1.
@@ -17,6 +17,12 @@ pub enum Refusal {
     NotBusy = 6,
     /// Rule 7.7.
     TooMany = 7,
+    /// Rule 17.9.
+    TooFewFrames = 8,
+    /// Rule 17.10.
+    TooFewRuns = 9,
+    /// Rules 17.5 to 17.7.
+    NoPlan = 10,
     /// Rule 7.11.
     SheetShape = 11,
     /// Rule 7.12.

@@ -50,7 +50,9 @@ use Rattle.model.proofs.Counter as N
 use Rattle.model.proofs.Counter.Laws as N′
 use Rattle.model.proofs.Counters as R
 use Rattle.model.proofs.Counters.Laws as R′
-use Rattle.counters.proofs.Lent.{val, Good, typed, tag, GoodTag, typed-tag, lent, opened, closed, gives, released}
+use Rattle.walks.proofs.Calls.{gives}
+use Rattle.walks.proofs.Locals.{released}
+use Rattle.counters.proofs.Lent.{val, Good, typed, tag, GoodTag, typed-tag, lent, opened, closed}
 use Rattle.counters.proofs.place.raise.Key.{name as #counters·place·raise}
 use Rattle.counters.proofs.place.raise as raise
 use Rattle.counters.proofs.place.raise.Statement as stated

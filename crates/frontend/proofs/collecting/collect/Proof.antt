@@ -2,10 +2,10 @@
 use borrow.Author.Needs.{needs}
 use mathlib.Core.Path.{_≡_, sym, _∙_}
 use native.Mathlib.Omega.{arith}
-use Rattle.frontend.specs.Guest.{placeOf, samePair, nextPair, ahead}
-use Rattle.frontend.specs.Words.{guestOf}
+use Rattle.guest.specs.Guest.{placeOf, samePair, nextPair, ahead}
+use Rattle.outstanding.specs.Words.{guestOf}
 use Rattle.frontend.proofs.Promises.{not-a-page, refused-34, none-yet, refused-35, collect-done}
-use Rattle.frontend.proofs.Outstanding.{place-lt}
+use Rattle.outstanding.proofs.Words.{place-lt}
 use Rattle.frontend.proofs.collecting.collect.Statement.{statement}
 use Rattle.frontend.proofs.collecting.collect.Tie as tie
 
