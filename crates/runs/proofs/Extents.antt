@@ -1,6 +1,6 @@
 -- The extents from a place on: the first of them, how it stands to the next, and whether they are sound. Assumes nothing.
 use borrow.Author.Tests.{eqb-true, leb-true, ltb-true}
-use mathlib.Core.Path.{_≡_, refl, sym, _∙_, ap}
+use mathlib.Core.Path.{_≡_, refl}
 use mathlib.Core.Bool.{Bool, true, false, _&&_}
 use mathlib.Core.List.{List, [], _∷_}
 use Prim.Native.Nat.{ℕ, zero, suc, _+_, _-_, _<_, _≤_, _^_}

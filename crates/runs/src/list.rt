@@ -5,7 +5,7 @@ ghost use mathlib.Core.Path.{_≡_};
 ghost use mathlib.Core.Bool.{true};
 ghost use Prim.Native.Nat.{_*_, _≤_};
 ghost use lib.ListN.{length};
-ghost use Rattle.runs.specs.Join.{extentsAt, areSound, runsOf};
+ghost use Rattle.runs.specs.Join.{extentsAt, areSound};
 ghost use Rattle.runs.specs.Answer.{runsIn, filled};
 
 // The runs of the first n extents, one to a record, from the first record on.

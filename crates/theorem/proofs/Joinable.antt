@@ -1,15 +1,15 @@
 -- No plan's extents are refused joining with 10. Assumes nothing.
 use borrow.Author.Tests.{le-ltb, lt-ltb, le-leb, eq-eqb, ne-eqb, leb-true, ltb-false, not-false}
-use mathlib.Core.Path.{_≡_, refl, sym, _∙_, ap, subst}
-use mathlib.Core.Bool.{Bool, true, false, not, _&&_, _||_}
+use mathlib.Core.Path.{_≡_, refl, _∙_, ap, subst}
+use mathlib.Core.Bool.{true, false}
 use mathlib.Core.List.{List, [], _∷_, map}
-use Prim.Native.Nat.{ℕ, zero, suc, _+_, _*_, _-_, _/_, _<_, _≤_, _^_}
+use Prim.Native.Nat.{ℕ, zero, suc, _+_, _*_, _-_, _<_, _≤_, _^_}
 use native.Mathlib.Decide.{ℕ-discrete}
 use native.Mathlib.Omega.{arith}
-use lib.Dec.{eqb, ltb, leb}
+use lib.Dec.{leb}
 use lib.ListN.{length}
 use Rattle.model.specs.Base.{all}
-use Rattle.model.specs.Checks.{maxSegments, isWithinFrame, sectorsIn, totalSectors, countOf, dataSegments, wrongSegment, pastEnd, operationChecks, segmentChecks, diskChecks, checks, firstFailed}
+use Rattle.model.specs.Checks.{maxSegments, isWithinFrame, sectorsIn, totalSectors, countOf, wrongSegment, pastEnd, operationChecks, segmentChecks, diskChecks, checks, firstFailed}
 use Rattle.model.specs.Plan.{Extent, extentsFrom, extentsOf, extentWords, planOf, verdictOf, wordsBeside}
 use Rattle.model.specs.Ring.{Layout, Request, segmentsOf, requestOf}
 use Rattle.model.specs.declared.Checked.{Checked}
