@@ -1,3 +1,1 @@
-pub mod States
 pub mod OpenClose
-pub mod Completions

@@ -19,7 +19,7 @@ ghost use Rattle.model.specs.Calls.{Open, Close};
 ghost use Rattle.model.specs.Port.{closedPort, openPort};
 ghost use Rattle.memory.specs.Backend.{backendOf};
 ghost use Rattle.memory.specs.Promise.{Promised};
-ghost use Rattle.backend.specs.Steps.{InUse};
+ghost use Rattle.memory.specs.InUse.{InUse};
 
 // A port just opened: both indices at 0, no tag busy.
 fn opened(params: Params) -> Port
@@ -49,7 +49,7 @@ pub fn open(memory: &mut [u64; WORDS], port: PortId, sheet: &[u8]) -> Reply
             match read {
                 Sheet::Refused(n) => Reply::Refused(n),
                 Sheet::Read(params) => {
-                    memory::set_port(memory, k, opened(params));
+                    records::set_port(memory, k, opened(params));
                     Reply::Done
                 }
             }
@@ -90,7 +90,7 @@ fn shut(memory: &mut [u64; WORDS], port: PortId) -> Reply
     if marks::in_flight(memory::busy_marks(memory, k)) != 0 {
         return Reply::Refused(IN_FLIGHT);
     }
-    memory::set_port(memory, k, closed());
+    records::set_port(memory, k, closed());
     Reply::Done
 }
 

@@ -1,4 +1,3 @@
 pub mod Steps
 pub mod Reasons
 pub mod OperationReasons
-pub mod DiskRange

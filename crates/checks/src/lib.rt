@@ -1,9 +1,4 @@
-// The checks of a request that look at no segment: 21 to 25, what it asks for; 28 and 29, its range on the disk. And what 29 asks of any two numbers.
-mod alignment;
-mod disk_range;
+// The checks of a request that look at nothing but what it asks for: 21 to 25.
 mod operations;
 
-pub use alignment::are_aligned;
-pub use alignment::unit_of;
-pub use disk_range::check_range;
 pub use operations::operation_reason;

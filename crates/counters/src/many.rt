@@ -1,9 +1,9 @@
 // A list of completions, by what the call returned and the words that it left, whatever they are: each status raises its number.
 use crate::record::raised;
-use crate::words::DONE;
-use crate::words::of_word;
 use completion_answers::many::MANY_COUNT;
 use completion_answers::many::MANY_STATUSES;
+use counter_words::DONE;
+use counter_words::of_word;
 use model::Counters;
 use model::buffer::MANY_WORDS;
 use model::limit::MOST_COMPLETIONS;

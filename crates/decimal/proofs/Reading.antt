@@ -15,7 +15,7 @@ use Rattle.model.specs.Base.{all}
 use Rattle.model.specs.NodeSheet.{isDigit, digitsFrom, digitsOf, numberOf}
 use Rattle.model.specs.declared.Number.{Number}
 use Rattle.decimal.specs.Digits.{digitsAfter}
-use Rattle.decimal.proofs.Digits.{too-big, in-range, grows, digits-after, digits-append, all-append, digit-part, value-part}
+use Rattle.digits.proofs.Digits.{too-big, in-range, grows, digits-after, digits-append, all-append, digit-part, value-part}
 
 -- ---- the beginning and the end
 

@@ -1,37 +1,20 @@
 // The decimal reader: what the digits of a text spell.
-use eight::eight_are_digits;
-use eight::eight_digits;
+use digits::DIGIT_0;
+use digits::digit;
+use digits::eight_are_digits;
+use digits::eight_digits;
+use digits::is_digit;
 use model::Number;
 ghost use mathlib.Core.Path.{_≡_};
-ghost use mathlib.Core.Bool.{true};
-ghost use Prim.Native.Nat.{_+_, _-_, _*_, _%_, _^_, _<_};
+ghost use Prim.Native.Nat.{_+_, _*_, _%_, _^_, _<_};
 ghost use lib.Dec.{leb};
 ghost use lib.ListN.{length};
-ghost use Rattle.model.specs.NodeSheet.{isDigit, digitsOf, numberOf};
+ghost use Rattle.model.specs.NodeSheet.{digitsOf, numberOf};
 ghost use Rattle.decimal.specs.Digits.{digitsAfter};
-
-mod eight;
-
-const DIGIT_0: u8 = 48;
-
-const DIGIT_9: u8 = 57;
 
 const LARGEST: u64 = 18446744073709551615;
 
 const TEN_TO_THE_8: u64 = 100000000;
-
-fn is_digit(byte: u8) -> bool
-    ensures { λ r. ⌜ r ≡ isDigit byte ⌝ }
-{
-    (byte >= DIGIT_0) & (byte <= DIGIT_9)
-}
-
-fn digit(byte: u8) -> u64
-    requires { ⌜ isDigit byte ≡ true ⌝ }
-    ensures { λ r. ⌜ r ≡ byte - 48 ⌝ }
-{
-    byte as u64 - DIGIT_0 as u64
-}
 
 // Whether eight digits of value d after those of value a make a number that is too big. The sum is made only when this says no, so that it never wraps.
 fn is_too_big(a: u64, d: u64) -> bool

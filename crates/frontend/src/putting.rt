@@ -60,10 +60,10 @@ pub fn put(guest: &mut [u64; GUEST_WORDS], page: &mut [u8], request: &[u64; REQU
         return Put::Refused(BAD_REQUEST);
     }
     if request[OPERATION] == DISCARD {
-        return place(guest, page, request, &asking::discard_slot(request));
+        return place(guest, page, request, &request_bytes::discard_slot(request));
     }
     if asking::wrong_segments(request, request[COUNT] as usize) {
         return Put::Refused(BAD_REQUEST);
     }
-    place(guest, page, request, &asking::segments_slot(request))
+    place(guest, page, request, &request_bytes::segments_slot(request))
 }

@@ -19,7 +19,7 @@ pub extern "C" fn kh_complete(
 ) -> u32
     ensures { λ n. ⌜ Promise (now (memory .entry)) (khComplete (now (rings .entry)) port tag serial result (now (answer .entry))) (record { number = n; rings = now (rings .exit); answer = now (answer .exit); memory = now (memory .exit) }) ⌝ }
 {
-    let completed = backend::complete(
+    let completed = completion::complete(
         memory,
         rings,
         PortId(port),

@@ -1,9 +1,9 @@
 // kh_meter_turn, kh_meter_completion and kh_meter_many: a host's record of a port, raised by what a call returned and left.
+use counter_words::done_counter;
+use counter_words::status_counter;
+use counter_words::taken_counter;
 use counters::after_many;
-use counters::done_counter;
 use counters::raise;
-use counters::status_counter;
-use counters::taken_counter;
 use model::Counters;
 use model::buffer::DONE_WORDS;
 use model::buffer::MANY_WORDS;

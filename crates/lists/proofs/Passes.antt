@@ -1,9 +1,7 @@
--- The two passes over a list of completions, entry by entry: what is left of a pass comes to what the whole of it does. Assumes nothing.
+-- The second pass over a list of completions, entry by entry: what is left of it comes to what the whole of it does. Assumes nothing.
 use mathlib.Core.Path.{_≡_, sym, ap, _∙_}
-use mathlib.Core.Bool.{Bool, true, false}
 use mathlib.Core.List.{List, [], _∷_}
 use Prim.Native.Nat.{ℕ, suc, _+_, _-_, _*_, _/_, _≤_, _<_}
-use native.Mathlib.Numerals.{add-one}
 use native.Mathlib.Omega.{arith}
 use lib.ListN.{length, getD, set}
 use lib.Seq.{sets}
@@ -12,62 +10,17 @@ use mir.Val.{toZ}
 use Rattle.model.specs.Answers.{magnitude, magnitudes}
 use Rattle.model.specs.Backend.{Backend, withTag}
 use Rattle.model.specs.Complete.{Completion, entryWords, completionAt, completionsFrom, completionsIn}
-use Rattle.model.specs.Port.{zeroTag, clearBusy, after}
+use Rattle.model.specs.Port.{zeroTag, after}
 use Rattle.model.specs.Ring.{Ring, layoutOf, ringFor, slotAt, setResponse}
-use Rattle.model.specs.Rules.{namesNone}
-use Rattle.model.specs.Turn.{tagId, serialOf, ResponseDue, written}
+use Rattle.model.specs.Turn.{ResponseDue, written}
 use Rattle.model.specs.declared.Abi.{Abi}
 use Rattle.model.specs.declared.Pages.{Pages}
 use Rattle.model.specs.declared.Status.{Status}
-use Rattle.model.specs.declared.Tag.{Tag}
 use Rattle.model.proofs.Page.{length-setResponse}
 use Rattle.memory.specs.Backend.{backendOf, Becomes}
 use Rattle.memory.proofs.Changes.{unchanged, then, restated}
-use Rattle.lists.specs.List.{holderIn, leftOf, dueFor, responsesAlong, emptied, EntryFinished, statusesAt, statusesOf, AllFinished}
-use Rattle.lists.specs.declared.Left.{Left}
-
--- ---- the entries, one after another
-
--- those from the i-th on begin with it
-pub from-next : (n : ℕ) (words : List ℕ) (i : ℕ) → i < n
-    → completionsFrom (n - i) words i ≡ completionAt words i ∷ completionsFrom (n - (i + 1)) words (i + 1)
-unfolding completionsFrom
-from-next n words i l =
-    let e : n - i ≡ suc (n - (i + 1)) = omega arith in
-    ap (λ (m : ℕ). completionsFrom m words i) e ∙ ap (λ (j : ℕ). completionAt words i ∷ completionsFrom (n - (i + 1)) words j) (sym (add-one i))
-
--- and behind the last there are none
-pub from-none : (n : ℕ) (words : List ℕ) (i : ℕ) → n ≤ i → completionsFrom (n - i) words i ≡ []
-unfolding completionsFrom
-from-none n words i l = let e : n - i ≡ 0 = omega arith in ap (λ (m : ℕ). completionsFrom m words i) e
-
--- all of them
-pub from-first : (words : List ℕ) → completionsFrom (length words / entryWords - 0) words 0 ≡ completionsIn words
-unfolding completionsIn
-from-first words = let e : length words / entryWords - 0 ≡ length words / entryWords = omega arith in ap (λ (m : ℕ). completionsFrom m words 0) e
-
--- ---- the first pass, entry by entry
-
-module _ (g : Ring) (keep : ℕ → Tag) (marks : ℕ) (n : ℕ) (words : List ℕ) (i : ℕ) (l : i < n) where
-  abbrev t : ℕ
-  t = getD words (entryWords * i) 0
-
-  abbrev none? : Bool
-  none? = namesNone g (tagId t) (serialOf (getD words (entryWords * i + 1) 0)) (holderIn marks keep t)
-
-  pub left-stops : none? ≡ true → Left.NotNamed ≡ leftOf g keep marks (completionsFrom (n - i) words i)
-  unfolding leftOf completionAt
-  left-stops e = sym (ap (leftOf g keep marks) (from-next n words i l) ∙ rw e)
-
-  pub left-goes : none? ≡ false → leftOf g keep (clearBusy marks t) (completionsFrom (n - (i + 1)) words (i + 1)) ≡ leftOf g keep marks (completionsFrom (n - i) words i)
-  unfolding leftOf completionAt
-  left-goes e = sym (ap (leftOf g keep marks) (from-next n words i l) ∙ rw e)
-
-pub left-ends : (g : Ring) (keep : ℕ → Tag) (marks n : ℕ) (words : List ℕ) (i : ℕ) → n ≤ i → Left.Busy marks ≡ leftOf g keep marks (completionsFrom (n - i) words i)
-unfolding leftOf
-left-ends g keep marks n words i l = sym (ap (leftOf g keep marks) (from-none n words i l))
-
--- ---- the second pass, entry by entry
+use Rattle.entries.proofs.FirstPass.{from-next, from-none, from-first}
+use Rattle.lists.specs.List.{dueFor, responsesAlong, emptied, EntryFinished, statusesAt, statusesOf, AllFinished}
 
 abbrev rest : List ℕ → ℕ → List Completion
 rest words i = completionsFrom (length words / entryWords - i) words i

@@ -36,10 +36,12 @@ use Rattle.memory.specs.Layout.{tags}
 use Rattle.memory.specs.Promise.{Promised}
 use Rattle.memory.proofs.Backend.{backend-ranged}
 use Rattle.memory.proofs.Changes.{then, restated, fields-become, promised, nothing-done}
-use Rattle.backend.proofs.Completions.{does-pointer, pointer-kept}
-use Rattle.lists.specs.List.{holderIn, leftOf, responsesAlong, emptied, TagsNamed, statusesAt, statusesOf, portWith, ListFinished, manyOf, manyFilled, ManyPromised}
-use Rattle.lists.specs.declared.Left.{Left}
-use Rattle.lists.proofs.Lists.{cleared, left-of, responses-along, emptied-ports, does-list}
+use Rattle.completion.proofs.Completions.{does-pointer, pointer-kept}
+use Rattle.entries.specs.Entries.{holderIn, leftOf}
+use Rattle.entries.specs.declared.Left.{Left}
+use Rattle.entries.proofs.FirstPass.{cleared, left-of}
+use Rattle.lists.specs.List.{responsesAlong, emptied, TagsNamed, statusesAt, statusesOf, portWith, ListFinished, manyOf, manyFilled, ManyPromised}
+use Rattle.lists.proofs.Lists.{responses-along, emptied-ports, does-list}
 
 -- ---- published
 

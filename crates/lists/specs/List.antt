@@ -1,7 +1,7 @@
 -- What the steps of completing a list ask and say. Entries are taken one after another, each on the memory that those before it left; that this comes to what the
 -- rules say of the list as a whole is shown in proofs/Lists.antt.
 use mathlib.Core.Path.{_≡_}
-use mathlib.Core.Bool.{Bool, cond, not}
+use mathlib.Core.Bool.{Bool}
 use mathlib.Core.List.{List, [], _∷_, _++_, map}
 use Prim.Native.Nat.{ℕ, _+_, _-_, _*_, _/_, _≤_, _<_}
 use lib.IntN.{ℤ}
@@ -15,10 +15,10 @@ use Rattle.model.specs.Buffers.{ringsLength, pagesOf, setPages}
 use Rattle.model.specs.Calls.{Complete, CompleteAnswer, noneDone, allDone, mostCompletions}
 use Rattle.model.specs.Complete.{Completion, entryWords, completionsIn, statusOf}
 use Rattle.model.specs.Deeds.{deeds}
-use Rattle.model.specs.Port.{Holder, free, held, zeroTag, isBusy, clearBusy, further}
+use Rattle.model.specs.Port.{zeroTag, further}
 use Rattle.model.specs.Ring.{Ring, layoutOf, ringFor, ringOf, slotAt, rspEvent, setResponse}
-use Rattle.model.specs.Rules.{namesNone, effectDue}
-use Rattle.model.specs.Turn.{tagId, serialOf, ResponseDue, dueTo, written, respondedAll, tells}
+use Rattle.model.specs.Rules.{effectDue}
+use Rattle.model.specs.Turn.{ResponseDue, dueTo, written, respondedAll, tells}
 use Rattle.model.specs.declared.Abi.{Abi}
 use Rattle.model.specs.declared.CompletedMany.{CompletedMany}
 use Rattle.model.specs.declared.Pages.{Pages}
@@ -28,27 +28,7 @@ use Rattle.model.specs.declared.Status.{Status}
 use Rattle.model.specs.declared.Tag.{Tag}
 use Rattle.memory.specs.Backend.{backendOf, Becomes}
 use Rattle.memory.specs.Layout.{tags}
-use Rattle.backend.specs.Steps.{InUse}
-use Rattle.lists.specs.declared.Left.{Left}
-
--- ---- the first pass
-
--- a tag by a word of marks: it is held where its mark is set
-abbrev pub holderIn : ℕ → (ℕ → Tag) → ℕ → Holder
-holderIn marks keep t = cond (isBusy marks t) (held (keep t)) free
-
--- whether an entry names a request that is busy by these marks, in a ring of any layout
-abbrev pub NamesBusy : (ℕ → Tag) → Pages → ℕ → ℕ → ℕ → Bool → Type 0
-NamesBusy keep pages marks tag serial r =
-    (abi : Abi) → r ≡ not (namesNone (ringFor abi pages) (tagId tag) (serialOf serial) (holderIn marks keep tag))
-
--- the marks that the entries leave, each clearing that of its tag
-unfoldable pub leftOf : Ring → (ℕ → Tag) → ℕ → List Completion → Left
-leftOf g keep marks [] = Left.Busy marks
-leftOf g keep marks (c ∷ cs) =
-    cond (namesNone g (c .tag) (c .serial) (holderIn marks keep (c .tag .0))) Left.NotNamed (leftOf g keep (clearBusy marks (c .tag .0)) cs)
-
--- ---- the second pass
+use Rattle.memory.specs.InUse.{InUse}
 
 -- the response that a tag and a result come to
 abbrev pub dueFor : Tag → ℤ → ResponseDue

@@ -1,11 +1,12 @@
-// Completing a list of started requests of one port: all of them, or none. Two passes over the entries: the first reads what they name and writes nothing, the
+// Completing a list of started requests of one port: all of them, or none. Two passes over the entries: the first (`entries`) reads what they name and writes nothing, the
 // second answers them. rsp_prod is stored once, behind the last response, and rsp_event read once, after that.
 use answers::magnitude;
 use answers::seen;
-use backend::free_tag;
+use completion::free_tag;
 use completion_answers::many::MANY_STATUSES;
+use entries::Left;
+use entries::left_busy;
 use layout::ring_bytes;
-use layout::ring_size;
 use memory::WORDS;
 use model::Abi;
 use model::CompletedMany;
@@ -30,60 +31,12 @@ ghost use Prim.Native.Nat.{_*_, _/_, _%_, _<_, _≤_};
 ghost use lib.ListN.{length};
 ghost use Rattle.model.specs.Buffers.{ports};
 ghost use Rattle.model.specs.Calls.{mostCompletions};
-ghost use Rattle.model.specs.Complete.{entryWords, completionsIn};
+ghost use Rattle.model.specs.Complete.{entryWords};
 ghost use Rattle.model.specs.Ring.{ringFor};
-ghost use Rattle.model.specs.declared.Abi.{Abi};
 ghost use Rattle.memory.specs.Backend.{backendOf};
 ghost use Rattle.memory.specs.Layout.{tags};
-ghost use Rattle.lists.specs.List.{NamesBusy, leftOf, EntryFinished, TagsNamed, RestCleared, AllFinished, AllResponded, ListTaken, ListFinished, ManyPromised};
-ghost use Rattle.backend.specs.Steps.{PortNamed};
-
-// The marks that stay once every entry of a list is done; or one of them names no busy request.
-pub enum Left {
-    Busy(u64),
-    NotNamed,
-}
-
-// Whether tag and serial, as the words of an entry have them, name a request that is busy by these marks.
-fn names_busy(
-    memory: &[u64; WORDS],
-    k: usize,
-    pages: Pages,
-    marks: u64,
-    tag: u64,
-    serial: u64,
-) -> bool
-    requires { ⌜ k < ports ⌝ }
-    ensures { λ r. ⌜ NamesBusy (backendOf (now (memory .entry)) .tag k) pages marks tag serial r ⌝ }
-{
-    if ring_size(pages) as u64 <= tag {
-        return false;
-    }
-    if !marks::is_busy(marks, tag as u32) {
-        return false;
-    }
-    memory::serial_at(memory, k, tag as usize) as u64 == serial
-}
-
-// The first pass. An entry's mark is cleared in a copy of the marks, so that a tag named twice is not busy the second time.
-fn left_busy(memory: &[u64; WORDS], k: usize, pages: Pages, busy: u64, entries: &[u64]) -> Left
-    requires { ⌜ k < ports ⌝ }
-    ensures { λ r. ⌜ ((abi : Abi) → r ≡ leftOf (ringFor abi pages) (backendOf (now (memory .entry)) .tag k) busy (completionsIn (now (entries .entry)))) ⌝ }
-{
-    let n = entries.len() / ENTRY_WORDS;
-    let mut left = busy;
-    let mut i = 0;
-    while i < n {
-        let at = ENTRY_WORDS * i;
-        let tag = entries[at];
-        if !names_busy(memory, k, pages, left, tag, entries[at + 1]) {
-            return Left::NotNamed;
-        }
-        left = marks::clear_mark(left, tag as u32);
-        i += 1;
-    }
-    Left::Busy(left)
-}
+ghost use Rattle.lists.specs.List.{EntryFinished, TagsNamed, RestCleared, AllFinished, AllResponded, ListTaken, ListFinished, ManyPromised};
+ghost use Rattle.completion.specs.Steps.{PortNamed};
 
 // Answers the request of tag t with the response of this index, and zeroes the tag. Reads no ring byte.
 fn finish_entry(
@@ -99,11 +52,11 @@ fn finish_entry(
     requires { ⌜ (k < ports) × (t < tags) × (length (now page) ≡ ringFor abi pages .bytes) ⌝ }
     ensures { λ r. ⌜ EntryFinished (now (memory .entry)) (now (page .entry)) k abi pages index t result (now (page .exit)) r (now (memory .exit)) ⌝ }
 {
-    let x = memory::tag_at(memory, k, t as usize);
-    memory::set_tag(memory, k, t as usize, free_tag());
+    let x = records::tag_at(memory, k, t as usize);
+    records::set_tag(memory, k, t as usize, free_tag());
     let status = status::word_status(x.expected, result);
     let pair = x.pair;
-    response::put_response(page, abi, pages, index, pair, status);
+    response_bytes::put_response(page, abi, pages, index, pair, status);
     status
 }
 
@@ -158,7 +111,7 @@ fn respond_all(
 {
     finish_all(memory, page, k, abi, pages, produced, entries, answer);
     let n = entries.len() / ENTRY_WORDS;
-    response::publish(page, produced, n as u32)
+    publishing::publish(page, produced, n as u32)
 }
 
 // Zeros for the statuses from the n-th on.
@@ -229,7 +182,7 @@ fn complete_listed(
         return CompletedMany::Done(port, false);
     }
     let k = port.0 as usize;
-    let p = memory::port_at(memory, k);
+    let p = records::port_at(memory, k);
     let params = p.params;
     let pages = params.pages;
     let left = left_busy(memory, k, pages, p.busy, entries);

@@ -4,3 +4,4 @@ pub mod Kept
 pub mod Encoded
 pub mod Zeros
 pub mod Changes
+pub mod States

@@ -5,8 +5,8 @@
 //         9 pages (0, or 32 where there is a second) · 10 consumed · 11 produced · 12 busy
 // a tag:  0 id · 1 operation · 2 serial · 3 expected
 //
-// Reading is total: no content of the words is wrong. Callers see the backend that the words say (specs/Backend.antt), and no word.
-use crate::words::known;
+// Reading is total: no content of the words is wrong. Callers see the backend that the words say (specs/Backend.antt), and no word; only `records`, which has the
+// port whole and the tags, reads words.
 use model::buffer::PORTS;
 ghost use mathlib.Core.Path.{_≡_};
 ghost use Prim.Native.Nat.{_<_};
@@ -16,24 +16,22 @@ ghost use Rattle.memory.specs.Backend.{backendOf, Becomes};
 
 mod fields;
 mod port;
-mod tag;
 mod words;
 
+pub use fields::state_word;
 pub use port::abi;
 pub use port::busy_marks;
 pub use port::consumed;
 pub use port::pages;
-pub use port::port_at;
 pub use port::produced;
 pub use port::set_busy_marks;
 pub use port::set_consumed;
-pub use port::set_port;
 pub use port::set_produced;
 pub use port::set_state;
 pub use port::state;
-pub use tag::serial_at;
-pub use tag::set_tag;
-pub use tag::tag_at;
+pub use words::known;
+pub use words::narrow;
+pub use words::word;
 
 pub const PORT_WORDS: usize = 13;
 

@@ -1,50 +1,24 @@
-// A port's words: its fields singly, of which a turn reads and writes few, and the port whole.
-use crate::PORT_WORDS;
-use crate::STRIDE;
+// A port's words: its fields singly, of which a turn reads and writes few.
 use crate::WORDS;
 use crate::fields::abi_of;
-use crate::fields::abi_word;
-use crate::fields::flag_word;
 use crate::fields::pages_of;
-use crate::fields::pages_word;
-use crate::fields::sector_of;
-use crate::fields::sector_word;
 use crate::fields::state_of;
 use crate::fields::state_word;
-use crate::words::flag;
 use crate::words::known;
 use crate::words::narrow;
-use crate::words::put_run;
 use crate::words::put_word;
 use crate::words::word;
 use model::Abi;
 use model::Pages;
-use model::Params;
-use model::Port;
 use model::State;
 ghost use mathlib.Core.Path.{_≡_};
 ghost use Prim.Native.Nat.{_<_};
 ghost use Rattle.model.specs.Buffers.{ports};
 ghost use Rattle.model.specs.Backend.{withPort};
 ghost use Rattle.memory.specs.Backend.{backendOf, Becomes, withState, withConsumed, withProduced, withBusy};
-ghost use Rattle.memory.specs.Words.{wordsOf};
 
-// Which of a port's words is which.
+// Which of a port's words is which; `records` has the others, words 1 to 7.
 const STATE: usize = 0;
-
-const WRITABLE: usize = 1;
-
-const BARRIER: usize = 2;
-
-const FLUSH: usize = 3;
-
-const DISCARD: usize = 4;
-
-const SECURE: usize = 5;
-
-const SECTOR_SIZE: usize = 6;
-
-const SECTORS: usize = 7;
 
 const ABI: usize = 8;
 
@@ -55,8 +29,6 @@ const CONSUMED: usize = 10;
 const PRODUCED: usize = 11;
 
 const BUSY: usize = 12;
-
-// ---- one field
 
 pub fn state(m: &[u64; WORDS], k: usize) -> State
     requires { ⌜ k < ports ⌝ }
@@ -135,75 +107,4 @@ pub fn set_busy_marks(m: &mut [u64; WORDS], k: usize, marks: u64)
 {
     known(m);
     put_word(m, k, BUSY, marks);
-}
-
-// ---- the whole port
-
-fn params(m: &[u64; WORDS], k: usize) -> Params
-    requires { ⌜ k < ports ⌝ }
-    ensures { λ r. ⌜ r ≡ backendOf (now (m .entry)) .port k .params ⌝ }
-{
-    let sector = sector_of(word(m, k, SECTOR_SIZE));
-    let abi = abi(m, k);
-    let pages = pages(m, k);
-    Params {
-        writable: flag(m, k, WRITABLE),
-        barrier: flag(m, k, BARRIER),
-        flush: flag(m, k, FLUSH),
-        discard: flag(m, k, DISCARD),
-        secure: flag(m, k, SECURE),
-        sector: sector,
-        sectors: word(m, k, SECTORS),
-        abi: abi,
-        pages: pages,
-    }
-}
-
-pub fn port_at(m: &[u64; WORDS], k: usize) -> Port
-    requires { ⌜ k < ports ⌝ }
-    ensures { λ r. ⌜ r ≡ backendOf (now (m .entry)) .port k ⌝ }
-{
-    let state = state(m, k);
-    let params = params(m, k);
-    Port {
-        state: state,
-        params: params,
-        consumed: consumed(m, k),
-        produced: produced(m, k),
-        busy: busy_marks(m, k),
-    }
-}
-
-fn words_of(p: Port) -> [u64; PORT_WORDS]
-    ensures { λ r. ⌜ r ≡ wordsOf p ⌝ }
-{
-    let state = p.state;
-    let params = p.params;
-    let sector = params.sector;
-    let abi = params.abi;
-    let pages = params.pages;
-    [
-        state_word(state),
-        flag_word(params.writable),
-        flag_word(params.barrier),
-        flag_word(params.flush),
-        flag_word(params.discard),
-        flag_word(params.secure),
-        sector_word(sector),
-        params.sectors,
-        abi_word(abi),
-        pages_word(pages),
-        p.consumed as u64,
-        p.produced as u64,
-        p.busy,
-    ]
-}
-
-pub fn set_port(m: &mut [u64; WORDS], k: usize, p: Port)
-    requires { ⌜ k < ports ⌝ }
-    ensures { λ _. ⌜ Becomes (now (m .entry)) (withPort (backendOf (now (m .entry))) k p) (now (m .exit)) ⌝ }
-{
-    known(m);
-    let w = words_of(p);
-    put_run(m, STRIDE * k, &w);
 }

@@ -1,17 +1,14 @@
-// The words of backend memory, singly and in runs.
+// The words of backend memory, singly.
 use crate::STRIDE;
 use crate::WORDS;
 ghost use mathlib.Core.Path.{_≡_};
-ghost use Prim.Native.Nat.{_+_, _<_, _≤_};
+ghost use Prim.Native.Nat.{_<_};
 ghost use lib.ListN.{length};
-ghost use lib.Seq.{sets};
 ghost use Rattle.model.specs.Buffers.{ports};
 ghost use Rattle.memory.specs.Layout.{stride, memoryWords};
-ghost use Rattle.memory.specs.Words.{word as wordAt, setWord, flagOf, narrow32};
+ghost use Rattle.memory.specs.Words.{word as wordAt, setWord, narrow32};
 
-// The values of a field of 8 bits and of 32: its word is taken modulo that.
-pub const VALUES_8: u64 = 256;
-
+// The values of a field of 32 bits: its word is taken modulo that.
 const VALUES_32: u64 = 4294967296;
 
 fn seen(m: &[u64]) {}
@@ -38,26 +35,7 @@ pub fn put_word(m: &mut [u64; WORDS], k: usize, q: usize, v: u64)
     m[STRIDE * k + q] = v;
 }
 
-// The words w go to the places from `from` on.
-pub fn put_run(m: &mut [u64; WORDS], from: usize, w: &[u64])
-    requires { ⌜ from + length (now w) ≤ memoryWords ⌝ }
-    ensures { λ _. ⌜ now (m .exit) ≡ sets (now (m .entry)) from (now (w .entry)) ⌝ }
-{
-    let mut i = 0;
-    while i < w.len() {
-        m[from + i] = w[i];
-        i += 1;
-    }
-}
-
-// A word as a flag, and as a number of 32 bits.
-pub fn flag(m: &[u64; WORDS], k: usize, q: usize) -> bool
-    requires { ⌜ (k < ports) × (q < stride) ⌝ }
-    ensures { λ r. ⌜ r ≡ flagOf (wordAt (now (m .entry)) k q) ⌝ }
-{
-    word(m, k, q) != 0
-}
-
+// A word as a number of 32 bits.
 pub fn narrow(m: &[u64; WORDS], k: usize, q: usize) -> u32
     requires { ⌜ (k < ports) × (q < stride) ⌝ }
     ensures { λ r. ⌜ r ≡ narrow32 (wordAt (now (m .entry)) k q) ⌝ }

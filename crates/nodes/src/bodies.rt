@@ -1,5 +1,4 @@
 // The bodies of a sheet, read in turn.
-use crate::text::read_body;
 use contents::ENTRIES;
 use contents::ENTRY;
 use contents::body_length;
@@ -7,6 +6,7 @@ use contents::entry_count;
 use contents::node_at;
 use model::Body;
 use model::node::PLACES;
+use texts::read_body;
 ghost use mathlib.Core.Path.{_≡_};
 ghost use Prim.Native.Nat.{_+_, _*_, _≤_};
 ghost use lib.ListN.{length, getD};

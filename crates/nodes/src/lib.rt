@@ -29,7 +29,6 @@ ghost use Rattle.model.specs.NodeSheet.{entriesOf, sectorSizeOf, abiFor, pagesF
 ghost use Rattle.contents.specs.Contents.{Contents};
 
 mod bodies;
-mod text;
 
 fn sector_size(v: u64) -> SectorSize
     ensures { λ r. ⌜ r ≡ sectorSizeOf v ⌝ }

@@ -68,7 +68,7 @@ pub fn start(memory: &mut [u64; WORDS], k: usize, p: Port, pair: Pair, plan: Pla
         serial: serial,
         expected: expected,
     };
-    memory::set_tag(memory, k, t as usize, x);
+    records::set_tag(memory, k, t as usize, x);
     memory::set_consumed(memory, k, ring::next_index(p.consumed));
     memory::set_busy_marks(memory, k, marks::set_mark(p.busy, t));
     advance(memory, k);

@@ -133,7 +133,7 @@ fn complete(
 ) {
     output::text(b"complete");
     let lent = input::within(r, rings);
-    let answer = backend::complete(
+    let answer = completion::complete(
         memory,
         &mut rings[..lent],
         PortId(input::narrow(names[0])),

@@ -59,13 +59,13 @@ fn completed_port(completed: Completed) -> u64 {
 
 pub fn after_turn(meters: &mut [u64; METERS], turned: Turned) {
     let at = place(turned_port(turned));
-    let after = counters::after_turn(counters_at(meters, at), turned);
+    let after = counter_cases::after_turn(counters_at(meters, at), turned);
     put_counters(meters, at, after);
 }
 
 pub fn after_completion(meters: &mut [u64; METERS], completed: Completed) {
     let at = place(completed_port(completed));
-    let after = counters::after_completion(counters_at(meters, at), completed);
+    let after = counter_cases::after_completion(counters_at(meters, at), completed);
     put_counters(meters, at, after);
 }
 

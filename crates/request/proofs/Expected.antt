@@ -16,7 +16,7 @@ use Rattle.model.specs.declared.Plan.{Plan}
 use Rattle.model.specs.declared.Verdict.{Verdict}
 use Rattle.segments.proofs.Slot.{length-segments, within-total}
 use Rattle.checks.proofs.Steps.{none-fails, all-passed}
-use Rattle.request.proofs.Verdict.{few-segments}
+use Rattle.verdicts.proofs.Verdict.{few-segments}
 
 module _ (q : Params) (l : Layout) (grants slot : List ℕ) (plan : Plan) (e : verdictOf q grants (requestOf l slot) ≡ Verdict.Start plan) where
   pub known : unknownOperation (requestOf l slot) ≡ false

@@ -13,7 +13,7 @@ use Rattle.model.specs.declared.Params.{Params}
 use Rattle.model.specs.declared.Verdict.{Verdict}
 use Rattle.model.proofs.Base.{and-false}
 use Rattle.request.specs.FlagIgnored.{Alike, FlagUnchecked, FlagIgnored}
-use Rattle.request.proofs.Verdict.{discard-plan, discard-checked}
+use Rattle.verdicts.proofs.Verdict.{discard-plan, discard-checked}
 
 module _ (p : Params) (grants : List ℕ) (r s : Request) (k : Alike r s) where
   one : r .pair .operation ≡ 5

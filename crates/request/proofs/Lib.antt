@@ -1,4 +1,3 @@
-pub mod Verdict
 pub mod Expected
 pub mod WholeSectors
 pub mod FlagIgnored

@@ -18,7 +18,7 @@ use Rattle.model.specs.declared.Verdict.{Verdict}
 use Rattle.model.proofs.Base.{clash, and-left, and-right}
 use Rattle.checks.proofs.Steps.{none-fails, all-passed}
 use Rattle.request.specs.WholeSectors.{isWhole, WholeSectors}
-use Rattle.request.proofs.Verdict.{moves}
+use Rattle.verdicts.proofs.Verdict.{moves}
 use Rattle.request.proofs.Expected.{known, amount}
 
 -- ---- sums and differences of whole sectors

@@ -1,3 +1,2 @@
-pub mod Judge
 pub mod WholeSectors
 pub mod FlagIgnored

@@ -1,52 +1,19 @@
--- What the ring adds to the model's laws of a response: how the code writes it, and that no other byte of the page changes but rsp_prod. Assumes nothing.
-use mathlib.Core.Path.{_≡_, refl, sym, ap, _∙_}
+-- What the ring adds to the model's laws of a response: no other byte of the page changes but rsp_prod. Assumes nothing.
+use mathlib.Core.Path.{_≡_, sym, _∙_}
 use mathlib.Core.List.{List}
-use Prim.Native.Nat.{ℕ, _+_, _-_, _/_, _^_, _≤_, _<_}
+use Prim.Native.Nat.{ℕ, _+_, _-_, _≤_, _<_}
 use native.Mathlib.Omega.{arith}
-use lib.Dec.{ltb}
 use lib.ListN.{length, getD, length-take, length-drop}
 use lib.Seq.{ext-getD}
-use mir.Syntax.{w16}
-use mir.Val.{ofZ, toZ}
-use Rattle.wire.specs.LittleEndian.{store}
 use Rattle.wire.specs.Part.{part}
-use Rattle.wire.proofs.LittleEndian.{store-add, getD-store-outside, load-agree}
+use Rattle.wire.proofs.LittleEndian.{getD-store-outside, load-agree}
 use Rattle.wire.proofs.Part.{getD-part}
-use Rattle.model.specs.Ring.{Ring, Layout, layoutOf, ringFor, rspProdAt, rspEventAt, rspEvent, setRspProd, slotAt, responseOperationAt, responseStatusAt, responsePaddingAt, statusNumber, statusBits, setResponse}
-use Rattle.model.specs.Base.{modulus}
-use Rattle.model.specs.Port.{distance, further}
-use Rattle.model.specs.Turn.{tells, written, respondedAll, responded}
-use Rattle.model.specs.declared.Abi.{Abi}
-use Rattle.model.specs.declared.Pages.{Pages}
+use Rattle.model.specs.Ring.{Ring, Layout, rspProdAt, rspEventAt, rspEvent, setRspProd, slotAt, responseOperationAt, responseStatusAt, responsePaddingAt, statusBits, setResponse}
+use Rattle.model.specs.Turn.{written, respondedAll, responded}
 use Rattle.model.specs.declared.Pair.{Pair}
 use Rattle.model.specs.declared.Status.{Status}
-use Rattle.model.proofs.Ring.{Fits, fits-for, slotAt-header}
+use Rattle.model.proofs.Ring.{Fits, slotAt-header}
 use Rattle.model.proofs.Page.{length-responded}
-
--- ---- as the code writes it
-
--- a byte and the zero behind it are one store of two bytes
-pub byte-zero : (b : List ℕ) (at v : ℕ) → v < 256 → store 2 b (at + responseOperationAt) v ≡ store 1 (store 1 b (at + responseOperationAt) v) (at + (responseOperationAt + 1)) 0
-byte-zero b at v h =
-    let e : at + responseOperationAt + 1 ≡ at + (responseOperationAt + 1) = omega arith in
-    let z : v / 256 ^ 1 ≡ 0 = omega arith in
-    rw (store-add 1 1 b (at + responseOperationAt) v, e, z)
-
--- a response of any layout has room for its status
-pub room-abi : (a : Abi) → responsePaddingAt ≤ layoutOf a .responseSize
-unfolding ringFor
-room-abi a = fits-for a Pages.One .statusRoom
-
--- the bits of a status' number, as a callee takes it
-pub passed : (s : Status) → ofZ w16 (toZ w16 (ofZ w16 (statusNumber s))) ≡ statusBits s
-passed Status.Okay = refl
-passed Status.Error = refl
-passed Status.NotSupported = refl
-
--- rsp_prod_pvt is n behind the new index, so n is what the distance to rsp_event is compared with
-pub tells-few : (old n event : ℕ) → old < modulus → n < modulus → tells old n event ≡ ltb (distance (further old n) event) n
-unfolding tells distance
-tells-few old n event o l = ap (λ (m : ℕ). ltb (distance (further old n) event) m) (omega arith)
 
 -- ---- a byte that no store of a response reaches
 

@@ -4,18 +4,12 @@ use mathlib.Core.Bool.{Bool}
 use mathlib.Core.List.{List}
 use Prim.Native.Nat.{ℕ}
 use Rattle.model.specs.Buffers.{pagesOf, setPages}
-use Rattle.model.specs.Ring.{Ring, rspEvent, setRspProd}
-use Rattle.model.specs.Port.{further}
+use Rattle.model.specs.Ring.{Ring, rspEvent}
 use Rattle.model.specs.Turn.{tells, responded}
 use Rattle.model.specs.declared.Pair.{Pair}
 use Rattle.model.specs.declared.Status.{Status}
 
--- rsp_prod is our own index raised by the n responses (rules 6.4 and 6.19), and the guest's rsp_event says whether it is to be notified (rule 6.20).
-pub record Published (before : List ℕ) (produced n : ℕ) (left : List ℕ) (told : Bool) : Type 0 where
-  pub page : left ≡ setRspProd before (further produced n)
-  pub notify : told ≡ tells produced n (rspEvent before)
-
--- The response too is in the page, in the slot of our index (rules 6.1 and 6.2).
+-- The response is in the page, in the slot of our index (rules 6.1 and 6.2), and published.
 pub record Responded (g : Ring) (before : List ℕ) (produced : ℕ) (q : Pair) (s : Status) (left : List ℕ) (told : Bool) : Type 0 where
   pub page : left ≡ responded g before produced q s
   pub notify : told ≡ tells produced 1 (rspEvent before)

@@ -27,7 +27,7 @@ fn look_at(memory: &[u64; WORDS], rings: &[u8], k: usize) -> Look
     requires { ⌜ (k < ports) × (length (now rings) ≡ ringsLength) ⌝ }
     ensures { λ r. ⌜ r ≡ lookOf (viewOf (backendOf (now (memory .entry)))) (now (rings .entry)) k ⌝ }
 {
-    let p = memory::port_at(memory, k);
+    let p = records::port_at(memory, k);
     let state = p.state;
     match state {
         State::Closed => Look::Nothing,

@@ -1,7 +1,4 @@
-// Checks 26, 27 and 29 over a request's segments, and the extents that they become.
-mod boundaries;
-
-pub use boundaries::keep_to_sectors;
+// Checks 26 and 27 over a request's segments, and the extents that they become.
 use layout::COPY_SEGMENTS;
 use layout::SEGMENT_BYTES;
 use layout::SEGMENT_FIRST;
@@ -34,7 +31,7 @@ pub enum Counted {
     Fault,
 }
 
-fn wide(x: u8) -> u64
+pub fn wide(x: u8) -> u64
     ensures { λ r. ⌜ r ≡ x ⌝ }
 {
     x as u64

@@ -42,7 +42,7 @@ fn take(
 {
     let at = next_slot(memory, k);
     let slot = ring::copy_slot(rings, at, memory::abi(memory, k));
-    let p = memory::port_at(memory, k);
+    let p = records::port_at(memory, k);
     let params = p.params;
     let from = PORT_GRANTS * k;
     let end = from + PORT_GRANTS;

@@ -41,7 +41,7 @@ use Rattle.memory.specs.Promise.{Promised}
 use Rattle.memory.proofs.Backend.{backend-ranged, size-tags}
 use Rattle.memory.proofs.Changes.{unchanged, stays, restated, Some, some-port, some-tag, some-pointer, some-then, promised}
 use Rattle.memory.proofs.Lens.{Ranged, RangedTag}
-use Rattle.backend.proofs.Completions.{does-pointer, pointer-kept}
+use Rattle.completion.proofs.Completions.{does-pointer, pointer-kept}
 
 -- ---- a plan's expected result fits its word
 

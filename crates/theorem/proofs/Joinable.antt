@@ -21,7 +21,7 @@ use Rattle.model.proofs.Base.{and-left, and-right}
 use Rattle.extents.proofs.Words.{length-extents, length-words}
 use Rattle.checks.proofs.Steps.{none-fails, all-passed}
 use Rattle.segments.proofs.Slot.{length-segments}
-use Rattle.request.proofs.Verdict.{moves, few-segments}
+use Rattle.verdicts.proofs.Verdict.{moves, few-segments}
 use Rattle.request.proofs.Expected.{known, amount}
 use Rattle.runs.specs.Answer.{isNoPlan}
 use Rattle.runs.specs.Join.{extentAt, extentsAt, isSound, follows, followed, areSound}

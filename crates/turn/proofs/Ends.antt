@@ -26,7 +26,7 @@ use Rattle.memory.specs.Backend.{backendOf}
 use Rattle.memory.specs.Promise.{Promised}
 use Rattle.memory.proofs.Changes.{promised, nothing-done}
 use Rattle.rotation.specs.Pick.{picked}
-use Rattle.rotation.specs.Idle.{Rested}
+use Rattle.idle.specs.Idle.{Rested}
 use Rattle.rotation.specs.declared.pick.Pick.{Pick}
 use Rattle.rotation.proofs.Search.{pick-found, pick-none}
 use Rattle.serve.specs.Serve.{Turns}

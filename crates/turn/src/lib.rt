@@ -1,4 +1,5 @@
 // One turn: the look for a port with something to serve, and then its service, or the arming of all open ports.
+use idle::rest;
 use memory::WORDS;
 use model::Turned;
 use model::buffer::GRANTS_BYTES;
@@ -9,7 +10,6 @@ use model::buffer::TURN_WORDS;
 use model::refusal::WRONG_LENGTH;
 use rotation::Pick;
 use rotation::pick_port;
-use rotation::rest;
 use serve::serve;
 ghost use mathlib.Core.Path.{_≡_};
 ghost use lib.ListN.{length};

@@ -7,7 +7,7 @@ use native.Mathlib.Omega.{arith}
 use lib.ListN.{length, drop}
 use lib.Seq.{drop-length}
 use Rattle.decimal.specs.Digits.{digitsAfter}
-use Rattle.decimal.proofs.Digits.{value-below}
+use Rattle.digits.proofs.Digits.{value-below}
 use Rattle.decimal.proofs.Reading.{read-end, rest-part, rest-length, read-several, read-too-big, read-none}
 use Rattle.decimal.proofs.by_eights.Statement.{statement}
 use Rattle.decimal.proofs.by_eights.Tie as tie

@@ -7,7 +7,7 @@ use native.Mathlib.Omega.{arith}
 use lib.ListN.{length, getD, drop}
 use Rattle.model.specs.NodeSheet.{digitsOf}
 use Rattle.decimal.specs.Digits.{digitsAfter}
-use Rattle.decimal.proofs.Digits.{digit-below, digit-after, few-fit}
+use Rattle.digits.proofs.Digits.{digit-below, digit-after, few-fit}
 use Rattle.decimal.proofs.Reading.{read-all, rest-part, rest-length, read-one, one-none}
 use Rattle.decimal.proofs.read_digits.Statement.{statement}
 use Rattle.decimal.proofs.read_digits.Tie as tie

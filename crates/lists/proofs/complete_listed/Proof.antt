@@ -10,7 +10,7 @@ use Rattle.model.specs.Ring.{ringOf}
 use Rattle.model.specs.declared.Port.{Port}
 use Rattle.memory.specs.Backend.{backendOf}
 use Rattle.memory.proofs.Backend.{size-tags}
-use Rattle.lists.specs.List.{leftOf}
+use Rattle.entries.specs.Entries.{leftOf}
 use Rattle.lists.proofs.Ways.{list-too-long, list-empty, list-at-fault, list-done, named-tags}
 use Rattle.lists.proofs.complete_listed.Statement.{statement}
 use Rattle.lists.proofs.complete_listed.Tie as tie

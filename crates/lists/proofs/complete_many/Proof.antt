@@ -1,7 +1,7 @@
 -- `lists::complete_many` meets its promise, by the state of the port. Assumes nothing.
 use borrow.Author.Needs.{needs}
 use native.Mathlib.Omega.{arith}
-use Rattle.backend.proofs.States.{not-closed}
+use Rattle.memory.proofs.States.{not-closed}
 use Rattle.lists.proofs.Ways.{list-wrong-rings, list-wrong-words, list-no-port, list-closed}
 use Rattle.lists.proofs.complete_many.Statement.{statement}
 use Rattle.lists.proofs.complete_many.Tie as tie

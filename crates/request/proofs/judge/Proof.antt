@@ -6,7 +6,7 @@ use Rattle.model.specs.Ring.{requestOf, segmentsOf}
 use Rattle.layout.specs.Copy.{requestIn}
 use Rattle.model.specs.Plan.{extentWords}
 use Rattle.checks.proofs.Reasons.{operation-passed, operation-refused}
-use Rattle.request.proofs.Verdict.{operation-verdict, empty-started, empty-extents, judged-refused, judged-start}
+use Rattle.verdicts.proofs.Verdict.{operation-verdict, empty-started, empty-extents, judged-refused, judged-start}
 use Rattle.request.proofs.judge.Statement.{statement}
 use Rattle.request.proofs.judge.Tie as tie
 

@@ -1,7 +1,7 @@
 -- `backend::open_close::close` meets its promise, by the state of the port. Assumes nothing.
 use borrow.Author.Needs.{needs}
 use native.Mathlib.Omega.{arith}
-use Rattle.backend.proofs.States.{not-closed}
+use Rattle.memory.proofs.States.{not-closed}
 use Rattle.backend.proofs.OpenClose.{close-no-port, close-closed}
 use Rattle.backend.proofs.open_close.close.Statement.{statement}
 use Rattle.backend.proofs.open_close.close.Tie as tie

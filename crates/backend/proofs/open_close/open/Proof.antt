@@ -1,7 +1,7 @@
 -- `backend::open_close::open` meets its promise, in each of the ways that it ends. Assumes nothing.
 use borrow.Author.Needs.{needs}
 use native.Mathlib.Omega.{arith}
-use Rattle.backend.proofs.States.{not-closed}
+use Rattle.memory.proofs.States.{not-closed}
 use Rattle.backend.proofs.OpenClose.{open-no-port, open-not-closed, open-bad-sheet, open-done}
 use Rattle.backend.proofs.open_close.open.Statement.{statement}
 use Rattle.backend.proofs.open_close.open.Tie as tie

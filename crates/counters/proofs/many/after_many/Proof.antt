@@ -1,6 +1,6 @@
 -- `counters::many::after_many` meets its contract. Assumes nothing.
 use borrow.Author.Needs.{needs}
-use Rattle.counters.proofs.Tables.{refused-stays}
+use Rattle.counter_words.proofs.Tables.{refused-stays}
 use Rattle.counters.proofs.many.after_many.Statement.{statement}
 use Rattle.counters.proofs.many.after_many.Tie as tie
 

@@ -22,9 +22,9 @@ use Rattle.counters.proofs.Lent.{typed-tag}
 use Rattle.counters.proofs.raise.Symbol as raise-def
 use Rattle.counters.proofs.raise.Symbol.{name as #counters·raise}
 use Rattle.counters.proofs.raise.Met as raise-thm
-use Rattle.counters.proofs.done_counter.Symbol as done-def
-use Rattle.counters.proofs.done_counter.Symbol.{name as #counters·done-counter}
-use Rattle.counters.proofs.done_counter.Met as done-thm
+use Rattle.counter_words.proofs.done_counter.Symbol as done-def
+use Rattle.counter_words.proofs.done_counter.Symbol.{name as #counter-words·done-counter}
+use Rattle.counter_words.proofs.done_counter.Met as done-thm
 use Rattle.kernelharp.proofs.Walks.{Naming, Raise, Has, Walk, leaves, names, raises, meets}
 use Rattle.kernelharp.proofs.metering.kh_meter_completion.Key.{name as #kernelharp·kh-meter-completion}
 use Rattle.kernelharp.proofs.metering.kh_meter_completion as f
@@ -32,7 +32,7 @@ use Rattle.kernelharp.proofs.metering.kh_meter_completion.Statement as 
 use Rattle.kernelharp.proofs.metering.kh_meter_completion.Code as code
 
 module _ {M : Type 1} (𝓤 : URA M) (H : Heap 𝓤) (A : Atoms 𝓤) (W : Given 𝓤 H A) (mem : Memory → SProp 𝓤) (run : Routine → Fun 𝓤) (C : Calls 𝓤 H) (Λ : Loops 𝓤 H) (fm : FmC 𝓤 H (W .laws) C) where
-  walk : Triple 𝓤 (C #counters·done-counter) (Naming 𝓤 H A 4 doneIn)
+  walk : Triple 𝓤 (C #counter-words·done-counter) (Naming 𝓤 H A 4 doneIn)
       → Triple 𝓤 (C #counters·raise) (Raise 𝓤 H A mem run) → Walk 𝓤 H A C Λ code.function 4 doneMetered
   walk known-done known-raise κ κ′ q q′ r number fits s =
       qed W (Has 𝓤 4 κ κ′ q q′ r s (now r)) ∵ enter ! C Λ code.function _ _ $
@@ -56,5 +56,5 @@ kh-meter-completion-spec 𝓤 H 𝓜 𝓖 𝓡 =
     (meets 𝓤 H (𝓖 .A) (givenOf 𝓤 H 𝓜 𝓖) (tablesOf 𝓤 H 𝓜 (tables 𝓤 H 𝓜 𝓡 code.env)) code.function 4 doneMetered (f.clauses 𝓤 H (𝓖 .A) (𝓜 .mem) (𝓡 .run)) refl
     (walk 𝓤 H (𝓖 .A) (givenOf 𝓤 H 𝓜 𝓖) (𝓜 .mem) (𝓡 .run) (tables 𝓤 H 𝓜 𝓡 code.env .C) (tables 𝓤 H 𝓜 𝓡 code.env .Λ)
     (fmOf 𝓤 H (givenOf 𝓤 H 𝓜 𝓖 .laws) (tablesOf 𝓤 H 𝓜 (tables 𝓤 H 𝓜 𝓡 code.env)))
-    (cited 𝓤 H (Naming 𝓤 H (𝓖 .A) 4 doneIn) 𝓜 𝓡 code.env #counters·done-counter done-def.routine code.calls-counters·done-counter (done-thm.met 𝓤 H 𝓜 𝓖 𝓡))
+    (cited 𝓤 H (Naming 𝓤 H (𝓖 .A) 4 doneIn) 𝓜 𝓡 code.env #counter-words·done-counter done-def.routine code.calls-counter-words·done-counter (done-thm.met 𝓤 H 𝓜 𝓖 𝓡))
     (cited 𝓤 H (Raise 𝓤 H (𝓖 .A) (𝓜 .mem) (𝓡 .run)) 𝓜 𝓡 code.env #counters·raise raise-def.routine code.calls-counters·raise (raise-thm.met 𝓤 H 𝓜 𝓖 𝓡))))

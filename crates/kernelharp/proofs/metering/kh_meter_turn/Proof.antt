@@ -22,12 +22,12 @@ use Rattle.counters.proofs.Lent.{typed-tag}
 use Rattle.counters.proofs.raise.Symbol as raise-def
 use Rattle.counters.proofs.raise.Symbol.{name as #counters·raise}
 use Rattle.counters.proofs.raise.Met as raise-thm
-use Rattle.counters.proofs.status_counter.Symbol as status-def
-use Rattle.counters.proofs.status_counter.Symbol.{name as #counters·status-counter}
-use Rattle.counters.proofs.status_counter.Met as status-thm
-use Rattle.counters.proofs.taken_counter.Symbol as taken-def
-use Rattle.counters.proofs.taken_counter.Symbol.{name as #counters·taken-counter}
-use Rattle.counters.proofs.taken_counter.Met as taken-thm
+use Rattle.counter_words.proofs.status_counter.Symbol as status-def
+use Rattle.counter_words.proofs.status_counter.Symbol.{name as #counter-words·status-counter}
+use Rattle.counter_words.proofs.status_counter.Met as status-thm
+use Rattle.counter_words.proofs.taken_counter.Symbol as taken-def
+use Rattle.counter_words.proofs.taken_counter.Symbol.{name as #counter-words·taken-counter}
+use Rattle.counter_words.proofs.taken_counter.Met as taken-thm
 use Rattle.kernelharp.proofs.Walks.{Naming, Raise, Has, Walk, leaves, names, raises, meets}
 use Rattle.kernelharp.proofs.metering.kh_meter_turn.Key.{name as #kernelharp·kh-meter-turn}
 use Rattle.kernelharp.proofs.metering.kh_meter_turn as f
@@ -35,7 +35,7 @@ use Rattle.kernelharp.proofs.metering.kh_meter_turn.Statement as stated
 use Rattle.kernelharp.proofs.metering.kh_meter_turn.Code as code
 
 module _ {M : Type 1} (𝓤 : URA M) (H : Heap 𝓤) (A : Atoms 𝓤) (W : Given 𝓤 H A) (mem : Memory → SProp 𝓤) (run : Routine → Fun 𝓤) (C : Calls 𝓤 H) (Λ : Loops 𝓤 H) (fm : FmC 𝓤 H (W .laws) C) where
-  walk : Triple 𝓤 (C #counters·taken-counter) (Naming 𝓤 H A 64 takenIn) → Triple 𝓤 (C #counters·status-counter) (Naming 𝓤 H A 64 statusIn)
+  walk : Triple 𝓤 (C #counter-words·taken-counter) (Naming 𝓤 H A 64 takenIn) → Triple 𝓤 (C #counter-words·status-counter) (Naming 𝓤 H A 64 statusIn)
       → Triple 𝓤 (C #counters·raise) (Raise 𝓤 H A mem run) → Walk 𝓤 H A C Λ code.function 64 turnMetered
   walk known-taken known-status known-raise κ κ′ q q′ r number fits s =
       qed W (Has 𝓤 64 κ κ′ q q′ r s (now r)) ∵ enter ! C Λ code.function _ _ $
@@ -66,6 +66,6 @@ kh-meter-turn-spec 𝓤 H 𝓜 𝓖 𝓡 =
     (meets 𝓤 H (𝓖 .A) (givenOf 𝓤 H 𝓜 𝓖) (tablesOf 𝓤 H 𝓜 (tables 𝓤 H 𝓜 𝓡 code.env)) code.function 64 turnMetered (f.clauses 𝓤 H (𝓖 .A) (𝓜 .mem) (𝓡 .run)) refl
     (walk 𝓤 H (𝓖 .A) (givenOf 𝓤 H 𝓜 𝓖) (𝓜 .mem) (𝓡 .run) (tables 𝓤 H 𝓜 𝓡 code.env .C) (tables 𝓤 H 𝓜 𝓡 code.env .Λ)
     (fmOf 𝓤 H (givenOf 𝓤 H 𝓜 𝓖 .laws) (tablesOf 𝓤 H 𝓜 (tables 𝓤 H 𝓜 𝓡 code.env)))
-    (cited 𝓤 H (Naming 𝓤 H (𝓖 .A) 64 takenIn) 𝓜 𝓡 code.env #counters·taken-counter taken-def.routine code.calls-counters·taken-counter (taken-thm.met 𝓤 H 𝓜 𝓖 𝓡))
-    (cited 𝓤 H (Naming 𝓤 H (𝓖 .A) 64 statusIn) 𝓜 𝓡 code.env #counters·status-counter status-def.routine code.calls-counters·status-counter (status-thm.met 𝓤 H 𝓜 𝓖 𝓡))
+    (cited 𝓤 H (Naming 𝓤 H (𝓖 .A) 64 takenIn) 𝓜 𝓡 code.env #counter-words·taken-counter taken-def.routine code.calls-counter-words·taken-counter (taken-thm.met 𝓤 H 𝓜 𝓖 𝓡))
+    (cited 𝓤 H (Naming 𝓤 H (𝓖 .A) 64 statusIn) 𝓜 𝓡 code.env #counter-words·status-counter status-def.routine code.calls-counter-words·status-counter (status-thm.met 𝓤 H 𝓜 𝓖 𝓡))
     (cited 𝓤 H (Raise 𝓤 H (𝓖 .A) (𝓜 .mem) (𝓡 .run)) 𝓜 𝓡 code.env #counters·raise raise-def.routine code.calls-counters·raise (raise-thm.met 𝓤 H 𝓜 𝓖 𝓡))))
