@@ -1,5 +1,6 @@
 /*
- * Kernelharp: the request core of a Xen block backend, and the guest's half of its rings. C99 or later, and C++.
+ * Kernelharp: the request core of a Xen block backend, and the guest's half of its rings. C99 or later, and C++. The
+ * archive is for x86-64 Linux only.
  *
  * The caller, a host or a guest, owns all memory and lends it to each call. Nothing is allocated, and nothing is kept
  * between calls but the backend memory, the meters and the guest memory. One backend, one thread at a time, and so with
@@ -13,8 +14,11 @@
  * uint64_t, and that the buffers of one call don't overlap. Rings, pages, grants and sheets may lie anywhere. A pointer
  * with length 0 may be null.
  *
- * A call sees the rings as they are at that call. Guests may write them between calls; while a call runs they must not,
- * so a host whose guests can do so lends a copy. The same holds of a guest's page and its backend.
+ * A call sees each ring byte once, and guests may write their rings between calls. What is lent is either private
+ * copies, which nobody else writes while the call runs, or, on x86-64 and with an archive that tests/once was run on,
+ * the guests' pages themselves: a call then acts on the bytes that it loaded, each once, and stores a response before
+ * the rsp_prod that publishes it. docs/HOST.md has both ways, and kernelharp_host.h does them. The same holds of a
+ * guest's page and its backend.
  *
  * Names. What a call or a word of an answer says is KH_ and its own name (KH_NOT_BUSY, KH_READ_ONLY, KH_STARTED); the
  * Rattle sources have the same names without KH_, the Rust ones as NotBusy, ReadOnly. What is handed in has its kind
@@ -29,6 +33,13 @@
 #include <stddef.h>
 #include <stdint.h>
 
+/* On what returns a refusal: who drops it is warned. */
+#ifdef __GNUC__
+#define KH_MUST_USE __attribute__((warn_unused_result))
+#else
+#define KH_MUST_USE
+#endif
+
 #ifdef __cplusplus
 extern "C" {
 #endif
@@ -39,7 +50,7 @@ extern "C" {
  * and the last, and makes no other call when one of them is not the header's: the header and the archive are then not
  * of one release, or not built for the same memory.
  */
-#define KH_VERSION 1000 /* 0.10.0 */
+#define KH_VERSION 1100 /* 0.11.0 */
 uint32_t kh_version(void);
 uint32_t kh_memory_words(void);
 uint32_t kh_guest_words(void);
@@ -238,7 +249,7 @@ enum kh_many_word {
  * Backend memory. All zeros are the empty backend, eight closed ports: there is no call to set it up, and
  * `static kh_memory memory;` is one. What the words hold is the library's business.
  */
-typedef struct {
+typedef struct kh_memory {
     uint64_t words[KH_MEMORY_WORDS];
 } kh_memory;
 
@@ -252,10 +263,10 @@ typedef struct {
  *
  * Refusals: 2, 3, then of the sheet 11, 12, 13 or 14 (the first body at fault), 15.
  */
-uint32_t kh_open(kh_memory *memory, uint32_t port, const uint8_t *sheet, size_t sheet_bytes);
+KH_MUST_USE uint32_t kh_open(kh_memory *memory, uint32_t port, const uint8_t *sheet, size_t sheet_bytes);
 
 /* Closes a port, open or broken, that has no requests in flight. Refusals: 2, 4, 5. */
-uint32_t kh_close(kh_memory *memory, uint32_t port);
+KH_MUST_USE uint32_t kh_close(kh_memory *memory, uint32_t port);
 
 /*
  * Serves one port: the first with something to serve, in ring order from the port after the one served last (port 0 at
@@ -269,8 +280,8 @@ uint32_t kh_close(kh_memory *memory, uint32_t port);
  *
  * Refusals: 1.
  */
-uint32_t kh_turn(kh_memory *memory, uint8_t *rings, size_t rings_bytes, const uint8_t *grants, size_t grants_bytes,
-                 uint64_t *answer);
+KH_MUST_USE uint32_t kh_turn(kh_memory *memory, uint8_t *rings, size_t rings_bytes, const uint8_t *grants,
+                             size_t grants_bytes, uint64_t *answer);
 
 /*
  * Answers a started request and frees its tag: the response is in its slot and rsp_prod is raised; no other ring byte
@@ -284,8 +295,8 @@ uint32_t kh_turn(kh_memory *memory, uint8_t *rings, size_t rings_bytes, const ui
  *
  * Refusals: 1 (the rings), 2, 4, 6.
  */
-uint32_t kh_complete(kh_memory *memory, uint8_t *rings, size_t rings_bytes, uint32_t port, uint32_t tag,
-                     uint32_t serial, int32_t result, uint64_t *answer);
+KH_MUST_USE uint32_t kh_complete(kh_memory *memory, uint8_t *rings, size_t rings_bytes, uint32_t port, uint32_t tag,
+                                 uint32_t serial, int32_t result, uint64_t *answer);
 
 /*
  * Answers some started requests of one port, KH_ENTRIES at most, and frees their tags: the responses are in their slots
@@ -303,15 +314,15 @@ uint32_t kh_complete(kh_memory *memory, uint8_t *rings, size_t rings_bytes, uint
  * Refusals: 1 (the rings, or entry_words no multiple of KH_ENTRY_WORDS), 2, 4, 7, 6. A single entry at fault, or a tag
  * that is named twice, is 6 for the whole list, and none of it is done.
  */
-uint32_t kh_complete_many(kh_memory *memory, uint8_t *rings, size_t rings_bytes, uint32_t port, const uint64_t *entries,
-                          size_t entry_words, uint64_t *answer);
+KH_MUST_USE uint32_t kh_complete_many(kh_memory *memory, uint8_t *rings, size_t rings_bytes, uint32_t port,
+                                      const uint64_t *entries, size_t entry_words, uint64_t *answer);
 
 /*
  * A port's meter: how many of its requests were taken, and how many were answered with each status. Meters are the
  * host's, one to a port; the backend knows none of them. All zeros are a new meter: the host zeroes one by a store of
  * its own, whenever it likes. Opening and closing the port leave it alone. Each number stops at 2^64 - 1 by itself.
  */
-typedef struct {
+typedef struct kh_meter {
     uint64_t taken;         /* requests that turns started or answered */
     uint64_t okay;          /* responses with KH_OKAY, all of completions, alone or in a list */
     uint64_t error;         /* with KH_ERROR, of turns and completions */
@@ -341,7 +352,7 @@ void kh_meter_completion(kh_meter *meter, uint32_t returned, const uint64_t *ans
 void kh_meter_many(kh_meter *meter, uint32_t returned, const uint64_t *answer);
 
 /* Sectors of machine frames that follow each other there and on the disk; from sector 7 on into the next frame. */
-typedef struct {
+typedef struct kh_run {
     uint64_t frame;  /* machine frame that it begins in */
     uint64_t first;  /* first sector in that frame, 0 to 7 */
     uint64_t length; /* sectors, in as many frames as it takes */
@@ -371,8 +382,9 @@ typedef struct {
  * - 8: fewer machine frames than extents.
  * - 9: fewer records than runs. As many records as extents are always enough.
  */
-uint32_t kh_join_extents(const uint64_t *extents, size_t extent_words, uint64_t pieces, const uint64_t *machine_frames,
-                         size_t frame_count, kh_run *runs, size_t run_count, uint64_t *answer);
+KH_MUST_USE uint32_t kh_join_extents(const uint64_t *extents, size_t extent_words, uint64_t pieces,
+                                     const uint64_t *machine_frames, size_t frame_count, kh_run *runs, size_t run_count,
+                                     uint64_t *answer);
 
 /*
  * The guest's half of a ring: it puts requests into a page of the 64-bit layout, and collects their responses. It knows
@@ -385,7 +397,7 @@ uint32_t kh_join_extents(const uint64_t *extents, size_t extent_words, uint64_t 
  *
  * The guest never takes req_prod or rsp_event from the page: both are its own.
  */
-typedef struct {
+typedef struct kh_guest {
     uint64_t words[KH_GUEST_WORDS];
 } kh_guest;
 
@@ -436,7 +448,8 @@ enum kh_collect_word {
  * Refusals: 1, 31, 32, 33. A request that is put can still be answered with a reason that is up to the disk, 22 to 24
  * and 27 to 29.
  */
-uint32_t kh_guest_put(kh_guest *guest, uint8_t *page, size_t page_bytes, const uint64_t *request, uint64_t *answer);
+KH_MUST_USE uint32_t kh_guest_put(kh_guest *guest, uint8_t *page, size_t page_bytes, const uint64_t *request,
+                                  uint64_t *answer);
 
 /*
  * Collects the next response, and its request is outstanding no more; the page stays. When there is none, rsp_event
@@ -447,7 +460,96 @@ uint32_t kh_guest_put(kh_guest *guest, uint8_t *page, size_t page_bytes, const u
  *
  * Refusals: 1, 34, 35. A page that is refused with 34 or 35 was written by a backend that doesn't keep to its half.
  */
-uint32_t kh_guest_collect(kh_guest *guest, uint8_t *page, size_t page_bytes, uint64_t *answer);
+KH_MUST_USE uint32_t kh_guest_collect(kh_guest *guest, uint8_t *page, size_t page_bytes, uint64_t *answer);
+
+/*
+ * A disk and its guest, which kh_write_sheet makes a sheet of. All zeros are a read-only disk without features, for a
+ * 64-bit guest with a ring of one page; sector_size and sectors have to be set.
+ */
+typedef struct kh_sheet {
+    bool writable;        /* mode: "w", else "r" */
+    bool barrier;         /* feature-barrier */
+    bool flush;           /* feature-flush-cache */
+    bool discard;         /* feature-discard */
+    bool discard_secure;  /* discard-secure */
+    uint32_t sector_size; /* 512, 1024, 2048 or 4096 */
+    uint64_t sectors;     /* of 512 bytes, whatever the sector size */
+    enum kh_abi abi;      /* protocol, as the guest's front end says: kh_read_protocol */
+    uint32_t pages;       /* of the guest's ring, 1 or 2: ring-page-order is one less; 0 is taken for 1 */
+} kh_sheet;
+
+/* As long as kh_write_sheet makes a sheet, at most. */
+#define KH_SHEET_BYTES 92
+
+/* Adds a node to a sheet whose head is in `sheet`, and its text to the bodies so far. Returns how long these are. */
+static inline size_t kh_add_text(uint8_t *sheet, uint8_t *bodies, size_t length, unsigned node, const char *text) {
+    uint8_t *entry = sheet + 1 + 4 * sheet[0]++;
+    size_t i;
+    for (i = 0; text[i] != '\0'; i++)
+        bodies[length + i] = (uint8_t)text[i];
+    entry[0] = (uint8_t)node;
+    entry[1] = 0;
+    entry[2] = (uint8_t)i;
+    entry[3] = 0;
+    return length + i;
+}
+
+/* The same of a number, in decimal digits. */
+static inline size_t kh_add_number(uint8_t *sheet, uint8_t *bodies, size_t length, unsigned node, uint64_t number) {
+    char text[21];
+    size_t i = sizeof text - 1;
+    text[i] = '\0';
+    do {
+        text[--i] = (char)('0' + number % 10);
+        number /= 10;
+    } while (number > 0);
+    return kh_add_text(sheet, bodies, length, node, text + i);
+}
+
+/*
+ * Writes the sheet that kh_open takes, and returns its length; there is room for KH_SHEET_BYTES bytes. A feature that
+ * is off has no node, nor have the 64-bit layout and a ring of one page. Numbers stand there as they are: kh_open
+ * judges them.
+ */
+static inline size_t kh_write_sheet(const kh_sheet *sheet, uint8_t *bytes) {
+    const bool features[] = {sheet->barrier, sheet->flush, sheet->discard, sheet->discard_secure};
+    uint8_t bodies[KH_SHEET_BYTES];
+    size_t length, head, i;
+    bytes[0] = 0;
+    length = kh_add_text(bytes, bodies, 0, KH_NODE_MODE, sheet->writable ? "w" : "r");
+    for (i = 0; i < sizeof features / sizeof features[0]; i++)
+        if (features[i])
+            length = kh_add_text(bytes, bodies, length, KH_NODE_BARRIER + (unsigned)i, "1");
+    length = kh_add_number(bytes, bodies, length, KH_NODE_SECTOR_SIZE, sheet->sector_size);
+    length = kh_add_number(bytes, bodies, length, KH_NODE_SECTORS, sheet->sectors);
+    if (sheet->abi == KH_BITS32)
+        length = kh_add_text(bytes, bodies, length, KH_NODE_PROTOCOL, "x86_32-abi");
+    if (sheet->pages > 1)
+        length = kh_add_number(bytes, bodies, length, KH_NODE_RING_PAGE_ORDER, sheet->pages - 1);
+    head = 1 + 4 * (size_t)bytes[0];
+    for (i = 0; i < length; i++)
+        bytes[head + i] = bodies[i];
+    return head + length;
+}
+
+/*
+ * The layout that a guest's node `protocol` names, or null, where it has no such node. False: another one, for which no
+ * port can be opened.
+ */
+KH_MUST_USE static inline bool kh_read_protocol(const char *protocol, enum kh_abi *abi) {
+    static const char *const names[] = {"x86_64-abi", "x86_32-abi"};
+    size_t known, i;
+    *abi = KH_BITS64;
+    for (known = 0; protocol != NULL && known < 2; known++) {
+        for (i = 0; protocol[i] != '\0' && protocol[i] == names[known][i]; i++)
+            continue;
+        if (protocol[i] == names[known][i]) {
+            *abi = known == 0 ? KH_BITS64 : KH_BITS32;
+            return true;
+        }
+    }
+    return protocol == NULL;
+}
 
 /* Whether the bytes are that text. */
 static inline bool kh_is_text(const uint8_t *bytes, size_t count, const char *text) {
@@ -502,15 +604,15 @@ static inline size_t kh_response_bytes(enum kh_abi abi) {
 }
 
 /* Some sectors of one frame, and where on the disk they go. */
-typedef struct {
-    uint32_t frame;  /* grant reference, below KH_PORT_GRANTS */
+typedef struct kh_extent {
+    uint32_t frame;  /* grant reference; below KH_PORT_GRANTS, unless kh_host_turn translated it */
     uint32_t first;  /* first sector in the frame, 0 to 7 */
     uint32_t length; /* sectors, 1 to 8 */
     uint64_t sector; /* first sector on the disk; the extents follow each other there */
 } kh_extent;
 
 /* What the host does for a started request. */
-typedef struct {
+typedef struct kh_plan {
     uint32_t tag;
     uint32_t serial;
     uint32_t operation; /* enum kh_operation */
@@ -521,8 +623,13 @@ typedef struct {
     kh_extent extents[KH_EXTENTS];
 } kh_plan;
 
+/* The result of a plan that was carried out: what kh_complete answers with the status okay. */
+static inline int32_t kh_expected_result(const kh_plan *plan) {
+    return plan->operation == KH_FLUSH || plan->operation == KH_DISCARD ? 0 : (int32_t)plan->count;
+}
+
 /* kh_turn's answer. */
-typedef struct {
+typedef struct kh_turned {
     uint32_t kind;   /* enum kh_kind */
     uint32_t port;   /* all kinds but idle */
     kh_plan plan;    /* started, else zeros */
@@ -532,14 +639,14 @@ typedef struct {
 } kh_turned;
 
 /* kh_complete's answer. */
-typedef struct {
+typedef struct kh_completed {
     uint32_t port;
     int32_t status; /* enum kh_status */
     bool notify;    /* the guest is to be notified */
 } kh_completed;
 
 /* kh_complete_many's answer. */
-typedef struct {
+typedef struct kh_completed_many {
     uint32_t port;
     uint32_t count;               /* entries */
     bool notify;                  /* the guest is to be notified, once for all of them */
@@ -561,6 +668,37 @@ static inline const char *kh_reason_text(uint32_t reason) {
     };
     bool known = reason >= KH_UNKNOWN_OPERATION && reason <= KH_UNALIGNED;
     return known ? texts[reason - KH_UNKNOWN_OPERATION] : "no reason";
+}
+
+/* What a refusal says, in a few words, for logs; 0 reads "done". */
+static inline const char *kh_refusal_text(uint32_t refusal) {
+    static const char *const texts[] = {
+        "done",
+        "a lent buffer has the wrong length",
+        "port above 7",
+        "port not closed",
+        "port closed",
+        "requests in flight",
+        "tag beyond the ring's slots, not busy, another serial, or named twice",
+        "more than 64 completions",
+        "fewer machine frames than extents",
+        "fewer run records than runs",
+        "more extents than places, or one empty, past its frame, past 2^64 - 1, or not next on the disk",
+        "sheet empty, more than 9 entries, a reserved byte not 0, wrong total length",
+        "node 0, above 9, or not rising",
+        "a text that node 1 to 5 or 8 does not know, or no number in 6, 7 or 9",
+        "a number that node 6, 7 or 9 does not allow",
+        "node 1, 6 or 7 missing",
+        "32 requests outstanding",
+        "a request with that id is outstanding",
+        "the request fails check 21, 25 or 26, or a number does not fit its field",
+        "rsp_prod is further ahead than there are requests outstanding",
+        "no outstanding request has the response's id and operation",
+    };
+    const uint32_t gap = KH_RING_FULL - KH_SHEET_MISSING - 1; /* numbers between those of a backend and of a guest */
+    uint32_t place = refusal < KH_RING_FULL ? refusal : refusal - gap;
+    bool known = refusal <= KH_SHEET_MISSING || (refusal >= KH_RING_FULL && refusal <= KH_NOT_OUTSTANDING);
+    return known ? texts[place] : "no refusal";
 }
 
 /* Extent i of a turn's answer, i < KH_EXTENTS. */
@@ -594,8 +732,8 @@ static inline kh_plan kh_read_plan(const uint64_t *answer) {
  * kh_join_extents of a plan that was read: with a machine frame for each of its extents, and KH_EXTENTS records, it is
  * not refused.
  */
-static inline uint32_t kh_join_plan(const kh_plan *plan, const uint64_t *machine_frames, size_t frame_count,
-                                    kh_run *runs, size_t run_count, uint64_t *answer) {
+KH_MUST_USE static inline uint32_t kh_join_plan(const kh_plan *plan, const uint64_t *machine_frames, size_t frame_count,
+                                                kh_run *runs, size_t run_count, uint64_t *answer) {
     uint64_t words[KH_EXTENTS * KH_EXTENT_WORDS];
     size_t i;
     for (i = 0; i < KH_EXTENTS; i++) {
@@ -650,14 +788,14 @@ static inline kh_completed_many kh_read_many(const uint64_t *answer) {
 }
 
 /* Some sectors of one frame, for a guest's request. */
-typedef struct {
+typedef struct kh_segment {
     uint32_t frame; /* grant reference */
     uint32_t first; /* first sector in the frame, 0 to 7 */
     uint32_t last;  /* last one, first to 7 */
 } kh_segment;
 
 /* A request for kh_guest_put. What its operation doesn't use may be anything, see enum kh_request_word. */
-typedef struct {
+typedef struct kh_request {
     uint32_t operation; /* enum kh_operation */
     uint64_t id;
     uint64_t start; /* first sector on the disk */
@@ -668,7 +806,7 @@ typedef struct {
 } kh_request;
 
 /* kh_guest_collect's answer. */
-typedef struct {
+typedef struct kh_collected {
     bool found;         /* there was a response, else all that follows is 0 */
     uint64_t id;        /* of the request that it is for, as the next */
     uint32_t operation; /* enum kh_operation */

@@ -1,6 +1,6 @@
-//! Links libkernelharp.a: the file that KERNELHARP_ARCHIVE names, else within the library's own
-//! repository target/staticlib/libkernelharp.a, which is built where it isn't there, else the one
-//! that pkg-config knows.
+//! Links libkernelharp.a: the file that KERNELHARP_ARCHIVE names (in the library's own repository a
+//! relative path is below its root), else in that repository the one that was built there, else the
+//! one that pkg-config knows. It is never built here: to prove it takes minutes, which `make` shows.
 
 use std::env;
 use std::path::{Path, PathBuf};
@@ -15,8 +15,9 @@ fn main() {
     let archive = match (env::var_os(VARIABLE), root) {
         (Some(path), Some(root)) => root.join(path),
         (Some(path), None) => PathBuf::from(path),
-        (None, Some(root)) => built_archive(root),
-        (None, None) => installed_archive(),
+        (None, root) => root
+            .and_then(built_archive)
+            .unwrap_or_else(installed_archive),
     };
     let is_archive = archive.file_name().is_some_and(|name| name == NAME) && archive.is_file();
     assert!(is_archive, "{} is no file {NAME}", archive.display());
@@ -35,18 +36,11 @@ fn repository(package: &Path) -> Option<&Path> {
     above.find(|folder| folder.join("crates/kernelharp/src/lib.rt").is_file())
 }
 
-/// The repository's own archive.
-fn built_archive(root: &Path) -> PathBuf {
+/// The repository's own archive, where it was built.
+fn built_archive(root: &Path) -> Option<PathBuf> {
     let archive = root.join("target/staticlib").join(NAME);
-    if !archive.is_file() {
-        let built = Command::new("rt")
-            .args(["staticlib", "kernelharp"])
-            .current_dir(root)
-            .status();
-        let built = built.unwrap_or_else(|fault| panic!("rt, the Rattle toolchain: {fault}"));
-        assert!(built.success(), "rt staticlib kernelharp: {built}");
-    }
-    archive
+    println!("cargo:rerun-if-changed={}", archive.display());
+    archive.is_file().then_some(archive)
 }
 
 /// The archive that was installed. Whether it is of this version, `Memory::new` asks it.
@@ -54,7 +48,7 @@ fn installed_archive() -> PathBuf {
     let asked = Command::new("pkg-config")
         .args(["--variable=libdir", "kernelharp"])
         .output();
-    let hint = format!("{VARIABLE} names no {NAME}, and pkg-config finds none");
+    let hint = format!("no {NAME}: `make install` builds and installs it (README.md says what that needs), {VARIABLE} names none, and pkg-config finds none");
     let output = asked.unwrap_or_else(|fault| panic!("{hint}: {fault}"));
     let errors = String::from_utf8_lossy(&output.stderr);
     assert!(output.status.success(), "{hint}: {errors}");

@@ -1,7 +1,7 @@
 //! What the tests build: node sheets ([`sheet`]), requests ([`Ask`]), a [`Bench`] with the second
 //! program and the archive side by side ([`Both`]), their hosts' [`Records`], their [`Guests`], a
 //! program's [`Twin`] on other bytes, the archive with its completions [`Exchanged`] for lists and lists for
-//! completions, flawed programs to be found ([`find_beside`], [`find_alone`]), histories made by hand ([`Story`]), and the two sides of a ring in
+//! completions, flawed programs to be found ([`find_beside`], [`find_alone`]), histories made by hand ([`Story`]), lists of calls as `replay` reads them ([`Replayed`]), and the two sides of a ring in
 //! steps ([`wakeup`]).
 
 mod ask;
@@ -12,6 +12,7 @@ mod flaws;
 mod guests;
 mod hex;
 mod records;
+mod replayed;
 mod sheets;
 mod story;
 mod twin;
@@ -25,6 +26,7 @@ pub use flaws::{find_alone, find_beside};
 pub use guests::Guests;
 pub use hex::bytes;
 pub use records::Records;
+pub use replayed::Replayed;
 pub use sheets::{
     full_sheet, sheet, sheet_number, usual_sheet, usual_sheet_of, with_node, with_ring,
 };

@@ -153,7 +153,8 @@ fn words_of_a_list() {
 /// The words of a record that is lent, in the header's order.
 fn fields(name: &str) -> Vec<&'static str> {
     let end = HEADER.find(&format!("}} {name};")).expect("a record");
-    let begin = HEADER[..end].rfind("typedef struct {").expect("its begin");
+    let begin = format!("typedef struct {name} {{");
+    let begin = HEADER[..end].rfind(&begin).expect("its begin");
     let lines = HEADER[begin..end].lines().filter_map(|line| {
         let (names, _) = line.trim().strip_prefix("uint64_t ")?.split_once(';')?;
         Some(names.split(", "))
@@ -220,20 +221,34 @@ fn refusals_and_reasons() {
     same_names(cases("kh_reason"), rust.map(|it| (it, it as i64)));
 }
 
-/// The texts of `kh_reason_text`, in its order, are those of the numbers 21 to 29, and beside them it has
-/// that of a number which is no reason.
-#[test]
-fn texts_of_reasons() {
-    let begin = HEADER.find("*kh_reason_text(").expect("a function");
+/// The texts that a function of the header gives for numbers that it knows, in its order, and the one that
+/// it has for all others.
+fn texts(function: &str) -> (Vec<&'static str>, &'static str) {
+    let begin = HEADER.find(&format!("*{function}(")).expect("a function");
     let end = HEADER[begin..].find("\n}").expect("its end");
     let lines = HEADER[begin..begin + end].lines().map(str::trim);
     let (texts, others): (Vec<&str>, Vec<&str>) = lines.partition(|line| line.starts_with('"'));
-    let due: Vec<String> = (21..=29)
-        .map(|it| format!("{:?},", Reason::text(it)))
-        .collect();
-    assert_eq!(texts, due);
-    let no_reason = format!(": {:?};", Reason::text(30));
-    assert!(others.last().is_some_and(|line| line.ends_with(&no_reason)));
+    let texts = texts.iter().map(|line| line.trim_matches(['"', ',']));
+    let (_, other) = others
+        .last()
+        .and_then(|line| line.split_once(" : "))
+        .expect("a last line");
+    (texts.collect(), other.trim_matches(['"', ';']))
+}
+
+#[test]
+fn texts_of_reasons() {
+    let due = (21..=29).map(Reason::text).collect();
+    assert_eq!(texts("kh_reason_text"), (due, Reason::text(30)));
+}
+
+#[test]
+fn texts_of_refusals() {
+    let (texts, other) = texts("kh_refusal_text");
+    let refusals = (0..100).filter_map(Refusal::from_number);
+    let due = refusals.map(|it| it.to_string().split(": ").skip(1).collect());
+    assert_eq!(texts[1..], due.collect::<Vec<String>>());
+    assert_eq!((texts[0], other), ("done", "no refusal"));
 }
 
 /// A Rattle source.

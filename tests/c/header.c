@@ -59,6 +59,83 @@ static void check_reason_texts(void) {
         check_at(__FILE__, __LINE__, lines[i].text, strcmp(kh_reason_text(lines[i].number), lines[i].text) == 0);
 }
 
+static void check_refusal_texts(void) {
+    static const uint32_t unknown[] = {16, 20, 21, 30, 36, 1000, UINT32_MAX};
+    size_t i;
+    CHECK(strcmp(kh_refusal_text(KH_OK), "done") == 0);
+    CHECK(strcmp(kh_refusal_text(KH_NO_PORT), "port above 7") == 0);
+    CHECK(strcmp(kh_refusal_text(KH_SHEET_MISSING), "node 1, 6 or 7 missing") == 0);
+    CHECK(strcmp(kh_refusal_text(KH_RING_FULL), "32 requests outstanding") == 0);
+    CHECK(strcmp(kh_refusal_text(KH_NOT_OUTSTANDING), "no outstanding request has the response's id and operation") ==
+          0);
+    for (i = 0; i < COUNT_OF(unknown); i++)
+        CHECK(strcmp(kh_refusal_text(unknown[i]), "no refusal") == 0);
+}
+
+static void check_expected_results(void) {
+    static const int32_t due[] = {88, 88, 88, 0, 88, 0};
+    struct kh_plan plan; /* by its tag */
+    memset(&plan, 0, sizeof plan);
+    plan.count = 88;
+    for (plan.operation = KH_READ; plan.operation <= KH_DISCARD; plan.operation++)
+        if (plan.operation != 4)
+            CHECK_EQ(kh_expected_result(&plan), due[plan.operation]);
+    plan.operation = KH_DISCARD;
+    plan.count = UINT64_MAX;
+    CHECK_EQ(kh_expected_result(&plan), 0);
+}
+
+static void check_sheet(const kh_sheet *properties, const char *due, size_t due_bytes) {
+    uint8_t bytes[KH_SHEET_BYTES];
+    CHECK_EQ(kh_write_sheet(properties, bytes), due_bytes);
+    CHECK(memcmp(bytes, due, due_bytes) == 0);
+}
+
+#define CHECK_SHEET(properties, text) check_sheet(properties, text, sizeof text - 1)
+
+static void check_sheet_bytes(void) {
+    kh_sheet disk = {false, false, false, false, false, 512, 2008, KH_BITS64, 0};
+    CHECK_SHEET(&disk, "\x03\x01\0\x01\0\x06\0\x03\0\x07\0\x04\0r5122008");
+    disk.pages = 1;
+    disk.writable = true;
+    CHECK_SHEET(&disk, "\x03\x01\0\x01\0\x06\0\x03\0\x07\0\x04\0w5122008");
+    disk.abi = KH_BITS32;
+    disk.sectors = 0;
+    CHECK_SHEET(&disk, "\x04\x01\0\x01\0\x06\0\x03\0\x07\0\x01\0\x08\0\x0A\0w5120x86_32-abi");
+    disk.abi = KH_BITS64;
+    disk.pages = 2;
+    disk.flush = true;
+    disk.sector_size = 4096;
+    disk.sectors = UINT64_MAX;
+    CHECK_SHEET(&disk, "\x05\x01\0\x01\0\x03\0\x01\0\x06\0\x04\0\x07\0\x14\0\x09\0\x01\0"
+                       "w14096184467440737095516151");
+}
+
+/* What is written opens a port with these properties; the longest of all is as long as the room for it. */
+static void check_sheets(void) {
+    static kh_memory empty;
+    uint8_t bytes[KH_SHEET_BYTES];
+    kh_sheet wrong = {true, true, true, true, true, UINT32_MAX, UINT64_MAX, KH_BITS32, UINT32_MAX};
+    uint32_t bits;
+    check_sheet_bytes();
+    for (bits = 0; bits < 128; bits++) {
+        kh_sheet disk = {(bits & 1) != 0, (bits & 2) != 0, (bits & 4) != 0, (bits & 8) != 0, (bits & 16) != 0, 1024, 8,
+                         KH_BITS64,       1 + bits / 64};
+        size_t length;
+        unsigned i;
+        disk.abi = (bits & 32) != 0 ? KH_BITS32 : KH_BITS64;
+        length = kh_write_sheet(&disk, bytes);
+        CHECK_EQ(kh_open(&empty, 0, bytes, length), KH_OK);
+        CHECK_EQ(kh_close(&empty, 0), KH_OK);
+        CHECK(kh_sheet_says(bytes, length, KH_NODE_MODE, disk.writable ? "w" : "r"));
+        for (i = 0; i < 4; i++)
+            CHECK_EQ(kh_sheet_says(bytes, length, (enum kh_node)(KH_NODE_BARRIER + i), "1"), (bits >> (1 + i)) & 1);
+        CHECK(kh_read_abi(bytes, length) == disk.abi && kh_read_pages(bytes, length) == disk.pages);
+    }
+    CHECK_EQ(kh_write_sheet(&wrong, bytes), KH_SHEET_BYTES);
+    CHECK_EQ(kh_open(&empty, 0, bytes, sizeof bytes), KH_SHEET_NUMBER);
+}
+
 /* A sheet with its protocol named, "x86_32-abi" or another of ten letters. */
 static enum kh_abi abi_of_protocol(const char *protocol) {
     uint8_t sheet[1 + 4 + 10] = {1, KH_NODE_PROTOCOL, 0, 10, 0};
@@ -300,6 +377,18 @@ static void check_collected_reader(void) {
     }
 }
 
+static void check_protocols(void) {
+    static const char *const others[] = {"",           "x86_64-ab",   "x86_64-abi ", "x86_32-ab", "x86_32-abi2",
+                                         "x86_64-ABI", " x86_64-abi", "x86_",        "arm-abi",   "x86_33-abi"};
+    enum kh_abi abi = KH_BITS32;
+    size_t i;
+    CHECK(kh_read_protocol(NULL, &abi) && abi == KH_BITS64);
+    CHECK(kh_read_protocol("x86_32-abi", &abi) && abi == KH_BITS32);
+    CHECK(kh_read_protocol("x86_64-abi", &abi) && abi == KH_BITS64);
+    for (i = 0; i < COUNT_OF(others); i++)
+        CHECK(!kh_read_protocol(others[i], &abi));
+}
+
 /* A guest that puts a read; a backend's answer to it. */
 static void check_guest_calls(void) {
     static uint8_t page[KH_GUEST_PAGE_BYTES];
@@ -328,6 +417,9 @@ int main(void) {
     check_archive_matches_header();
     check_names();
     check_reason_texts();
+    check_refusal_texts();
+    check_expected_results();
+    check_sheets();
     check_layouts();
     check_rings();
     check_record_places();
@@ -339,6 +431,7 @@ int main(void) {
     check_entry_writer();
     check_request_writer();
     check_collected_reader();
+    check_protocols();
     check_guest_calls();
     return running.failures != 0;
 }

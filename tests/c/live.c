@@ -1,50 +1,98 @@
 /*
- * The listing of docs/HOST.md, run: over live pages it leaves what a host leaves that lends the rings themselves, and
- * answers alike, whatever guests of both layouts publish in rings of one page and of two. The pages of a ring are no
- * neighbours, nor in order. One thread, in which a guest may ask for an event at the last moment of a list of
- * completions; the order of two is for host/tests/wakeup.rs.
+ * The C helper over rings of guests: it leaves what a host leaves that lends plain rings to the calls, and answers
+ * alike, whatever guests of both layouts publish in rings of one page and of two.
+ *
+ *     live copies             private copies; the pages of a ring are no neighbours, nor in order
+ *     live pages              live pages
+ *     live references         private copies, and references of 32 bits: the other host's guests have small numbers
+ *     live trace SEED FILE    the same with the trace on, as long as replay reads it
+ *     live lives SEED FILE    traces of private copies, one for each time until every port is closed
+ *
+ * One thread, in which a guest may ask for an event at the last moment of a completion; the order of two is for
+ * racing.c, processes.c and host/tests/wakeup.rs.
  */
-#include "fences.h"
+#include "any.h"
+#include "fenced.h"
 
-#include "rules.c" /* the listing */
+#include <kernelharp_host.h>
 
-enum { STEPS = 400000, PLANS = KH_PORTS * KH_TAGS, LIVE_PAGES = KH_PORTS * KH_RING_PAGES };
+#define WORD(at) ((at) / sizeof(uint32_t))
 
-static uint32_t pages[LIVE_PAGES][PAGE_WORDS]; /* the guests' */
-static uint32_t lent[KH_PORTS * SHARE_WORDS];  /* the same, of the host that lends them */
-static kh_memory lender;
+enum {
+    PAGE_WORDS = KH_PAGE_BYTES / 4,
+    SHARE_WORDS = KH_RING_BYTES / 4,
+    PLANS = KH_PORTS * KH_TAGS,
+    STEPS = 200000,
+    TRACE_BYTES = 60000, /* and one step more */
+    LIFE_BYTES = 50000,  /* and its end */
+    LIVES = 3
+};
+
+static kh_host host;
+static bool has_row, has_references;
+static _Alignas(KH_PAGE_BYTES) uint32_t pages[KH_PORTS * KH_RING_PAGES][PAGE_WORDS]; /* the guests' */
+
+static kh_memory lender;                      /* the host that lends plain rings, and those */
+static uint32_t lent[KH_PORTS * SHARE_WORDS]; /* of its guests */
+static uint8_t lent_grants[KH_GRANTS_BYTES];
 
 /* What a port's guest is like, by the last opening: closed ports have one too. */
 static struct {
     uint32_t pages;
     size_t slot_bytes;
+    bool is_open, broken;
+    uint32_t published, taken, answered;
+    uint32_t references[KH_PORT_GRANTS];     /* for each frame of the other host's guest */
+    uint64_t is_reference[SHARE_WORDS / 64]; /* words of the ring, a bit to each */
 } guests[KH_PORTS];
 
 static kh_turned plans[PLANS];       /* in flight, or completed before */
 static bool busy[KH_PORTS][KH_TAGS]; /* in flight */
-static uint32_t published[KH_PORTS];
-static unsigned long came[4], opened[KH_RING_PAGES][2], reshaped, refused, drawn_back;
-static unsigned long lists[3], lists_notified, lists_refused, asked_late; /* those done, of none, of one and of more */
-static uint32_t most[KH_RING_PAGES];                                      /* in flight on a port, by its pages */
-static kh_meter counted[KH_PORTS], billed[KH_PORTS]; /* by this file; by the listing, taken from time to time */
+static unsigned long came[4], opened[KH_RING_PAGES][2], reshaped, drawn_back, asked, ungranted;
+static unsigned long lists[3], lists_notified, lists_refused; /* those done, of none, of one and of more */
+static unsigned long asked_late, overtaken;
+static uint32_t most[KH_RING_PAGES];                 /* in flight on a port, by its pages */
+static kh_meter metered[KH_PORTS], billed[KH_PORTS]; /* by this file; by the helper, taken from time to time */
+static kh_counters counted[KH_PORTS];                /* by this file */
 
-static uint64_t state = UINT64_C(0x6B65726E656C6861);
+static FILE *lines; /* of the trace */
+static size_t line_bytes;
 
-static uint32_t below(uint32_t bound) {
-    state = state * UINT64_C(6364136223846793005) + UINT64_C(1442695040888963407);
-    return (uint32_t)(state >> 33) % bound;
-}
+/* ---- what both hosts have to have alike */
 
-/* Where a guest's page is: the second ones come first, and backwards. */
+/* Where a guest's page is. With private copies the second ones come first, and backwards. */
 static uint32_t *page_of(uint32_t port, size_t page) {
+    if (has_row)
+        return pages[KH_RING_PAGES * port + page];
     return pages[page == 0 ? KH_PORTS + port : KH_PORTS - 1 - port];
 }
 
+static bool is_reference(uint32_t port, size_t word) {
+    return (guests[port].is_reference[word / 64] >> word % 64 & 1) != 0;
+}
+
+/* A word of the ring as it is due in the guest's page. */
+static uint32_t due_word(uint32_t port, size_t word) {
+    uint32_t value = lent[SHARE_WORDS * port + word];
+    return is_reference(port, word) ? guests[port].references[value] : value;
+}
+
+/* With references word by word, and so not each time: what is wrong in a page stays there for a while. */
 static bool same_pages(void) {
-    for (uint32_t i = 0; i < LIVE_PAGES; i++)
-        if (memcmp(page_of(i / KH_RING_PAGES, i % KH_RING_PAGES), lent + PAGE_WORDS * i, KH_PAGE_BYTES) != 0)
-            return false;
-    return true;
+    static unsigned long times;
+    bool same = true;
+    if (has_references && ++times % 16 != 0)
+        return true;
+    for (uint32_t port = 0; port < KH_PORTS; port++)
+        for (size_t page = 0; page < KH_RING_PAGES; page++) {
+            const uint32_t *here = page_of(port, page), *there = lent + SHARE_WORDS * port + PAGE_WORDS * page;
+            if (!has_references)
+                same = same && memcmp(here, there, KH_PAGE_BYTES) == 0;
+            else
+                for (size_t at = 0; at < PAGE_WORDS; at++)
+                    same = same && here[at] == due_word(port, PAGE_WORDS * page + at);
+        }
+    return same;
 }
 
 static void same(const char *what, bool holds) {
@@ -57,201 +105,383 @@ static void same(const char *what, bool holds) {
 /* ---- the guests, whose writes reach both rings */
 
 static void guest_writes(uint32_t port, size_t word, uint32_t value) {
-    lent[SHARE_WORDS * port + word] = htole32(value);
-    page_of(port, word / PAGE_WORDS)[word % PAGE_WORDS] = htole32(value);
+    lent[SHARE_WORDS * port + word] = value;
+    page_of(port, word / PAGE_WORDS)[word % PAGE_WORDS] = value;
+    guests[port].is_reference[word / 64] &= ~(UINT64_C(1) << word % 64);
+}
+
+/* The grant that is frame `frame` to the other host's guest. */
+static void guest_refers(uint32_t port, size_t word, uint32_t frame) {
+    guest_writes(port, word, frame);
+    if (has_references) {
+        guests[port].is_reference[word / 64] |= UINT64_C(1) << word % 64;
+        page_of(port, word / PAGE_WORDS)[word % PAGE_WORDS] = guests[port].references[frame];
+    }
+}
+
+/* What the guest's references are granted for; it has granted no others. */
+static uint8_t granted(void *context, uint32_t port, uint32_t reference) {
+    uint32_t frame = 0;
+    while (frame < KH_PORT_GRANTS && guests[port].references[frame] != reference)
+        frame++;
+    asked++;
+    CHECK(context == &lender);
+    return frame < KH_PORT_GRANTS ? lent_grants[KH_PORT_GRANTS * port + frame] : KH_GRANT_NONE;
 }
 
 /*
- * Rubbish half of the time, else a read or write of some sectors. In both layouts the segments end the slot, and the
- * word that the index goes to is half of the id.
+ * Rubbish at times, else a request that is sound but for its grants and at times its place. In both layouts the
+ * segments end the slot, its third word is half of the id, and the start comes right before the segments.
  */
 static void guest_requests(uint32_t port, uint32_t index) {
-    size_t slot_bytes = guests[port].slot_bytes;
-    size_t at = WORD(KH_HEADER_BYTES + slot_bytes * (index % (32 * guests[port].pages))), end = at + WORD(slot_bytes);
-    bool rubbish = below(2) == 0;
+    static const uint32_t operations[] = {KH_READ, KH_READ, KH_WRITE, KH_WRITE, KH_BARRIER, KH_FLUSH, KH_DISCARD};
+    size_t words = WORD(guests[port].slot_bytes);
+    size_t at = WORD(KH_HEADER_BYTES) + words * (index % (32 * guests[port].pages)), end = at + words;
+    uint32_t operation = operations[below(7)], segments = 1 + below(KH_SEGMENTS);
+    bool rubbish = one_in(4);
     for (size_t word = at; word < end; word++)
-        guest_writes(port, word, rubbish ? below(UINT32_MAX) : 0);
+        guest_writes(port, word, rubbish ? (uint32_t)any() : 0);
     guest_writes(port, at + 2, index);
     if (rubbish)
         return;
-    guest_writes(port, at, below(2) | (1 + below(KH_EXTENTS)) << 8);
-    for (size_t i = 1; i <= KH_EXTENTS; i++)
-        guest_writes(port, end - 2 * i, below(KH_PORT_GRANTS));
+    if (operation == KH_FLUSH || (operation == KH_BARRIER && one_in(2)))
+        segments = 0;
+    guest_writes(port, at, operation | segments << 8);
+    guest_writes(port, end - 2 * KH_SEGMENTS - 2, below(2100));
+    guest_writes(port, end - 2 * KH_SEGMENTS, below(100)); /* of a discard */
+    for (size_t i = 0; operation != KH_DISCARD && i < segments; i++) {
+        uint32_t first = below(8);
+        guest_refers(port, end - 2 * (KH_SEGMENTS - i), below(KH_PORT_GRANTS));
+        guest_writes(port, end - 2 * (KH_SEGMENTS - i) + 1, first | (first + below(8 - first)) << 8);
+    }
 }
 
 static void guest_publishes(uint32_t port, uint32_t req_prod) {
-    published[port] = req_prod;
+    guests[port].published = req_prod;
     guest_writes(port, WORD(KH_REQ_PROD), req_prod);
 }
 
 static void guest_step(uint32_t port) {
     uint32_t more = below(6);
     for (uint32_t i = 0; i < more; i++)
-        guest_requests(port, published[port] + i);
-    guest_publishes(port, published[port] + more);
-    if (below(2) == 0)
-        guest_writes(port, WORD(KH_RSP_EVENT), ports[port].rsp_prod + below(4));
+        guest_requests(port, guests[port].published + i);
+    guest_publishes(port, guests[port].published + more);
+    if (one_in(2))
+        guest_writes(port, WORD(KH_RSP_EVENT), guests[port].answered + below(4));
 }
 
-/* ---- each call of both hosts */
+/* ---- what a guest does at a fence of the helper */
 
-static kh_turned lent_turn(void) {
-    uint64_t answer[KH_TURN_WORDS];
-    kh_turn(&lender, (uint8_t *)lent, sizeof lent, grants, sizeof grants, answer);
-    return kh_read_turn(answer);
-}
+static struct {
+    enum { NOTHING, PUBLISHES, ASKS, OVERTAKES } what; /* once: at the full fence, but the last */
+    bool came;
+    uint32_t looks;              /* at other ports, until its req_prod is loaded and it overtakes the helper */
+    uint32_t port, first, count; /* responses that go out */
+    uint32_t rsp_event;          /* asked for */
+} late;
 
-static bool same_plan(const kh_plan *a, const kh_plan *b) {
-    bool holds = a->tag == b->tag && a->serial == b->serial && a->operation == b->operation && a->start == b->start &&
-                 a->count == b->count && a->secure == b->secure && a->extent_count == b->extent_count;
-    for (size_t i = 0; i < KH_EXTENTS; i++)
-        holds = holds && a->extents[i].frame == b->extents[i].frame && a->extents[i].first == b->extents[i].first &&
-                a->extents[i].length == b->extents[i].length && a->extents[i].sector == b->extents[i].sector;
+/* Whether so many responses are out, and rsp_prod is not yet, or is. */
+static bool is_out(bool published) {
+    size_t words = WORD(guests[late.port].slot_bytes), response = words == 28 ? 4 : 3;
+    bool holds = page_of(late.port, 0)[WORD(KH_RSP_PROD)] == late.first + (published ? late.count : 0);
+    for (uint32_t i = 0; i < late.count; i++) {
+        size_t at = WORD(KH_HEADER_BYTES) + words * ((late.first + i) % (32 * guests[late.port].pages));
+        for (size_t word = at; word < at + response; word++)
+            holds = holds &&
+                    page_of(late.port, word / PAGE_WORDS)[word % PAGE_WORDS] == lent[SHARE_WORDS * late.port + word];
+    }
     return holds;
 }
 
-/* ---- the meters */
+static void publish_late(void) {
+    late.came = true;
+    guest_requests(late.port, guests[late.port].published);
+    guest_publishes(late.port, guests[late.port].published + 1);
+}
+
+/* All responses are out before rsp_prod is, and rsp_prod before the second look. The lender has answered already. */
+void at_fence(int order) {
+    if (late.what == OVERTAKES && !late.came && order == __ATOMIC_ACQUIRE && late.looks-- == 0)
+        publish_late();
+    if (late.what == NOTHING || late.what == OVERTAKES || late.came || order == __ATOMIC_ACQUIRE)
+        return;
+    if (late.what == ASKS && !is_out(order == __ATOMIC_SEQ_CST)) {
+        printf("tests/c/live.c: responses and rsp_prod are out of order\n");
+        exit(1);
+    }
+    if (order != __ATOMIC_SEQ_CST)
+        return;
+    if (late.what == PUBLISHES) {
+        publish_late();
+        return;
+    }
+    late.came = true;
+    guest_writes(late.port, WORD(KH_RSP_EVENT), late.rsp_event);
+}
+
+/*
+ * The lender has given so many responses. Before the helper has, the guest may ask for an event with one of them, or
+ * with a later one. True: notify.
+ */
+static bool gives(uint32_t port, uint32_t count, bool said, bool before) {
+    guests[port].answered += count;
+    late.came = false;
+    late.what = before && count > 0 && one_in(3) ? ASKS : NOTHING;
+    late.port = port;
+    late.first = guests[port].answered - count;
+    late.count = count;
+    late.rsp_event = late.first + below(count + 3);
+    bool asks = late.what == ASKS && guests[port].answered - late.rsp_event < count;
+    asked_late += asks && !said;
+    counted[port].notifies += said || asks;
+    return said || asks;
+}
+
+static bool was_at_fence(void) {
+    bool holds = late.what == NOTHING || late.came;
+    late.what = NOTHING;
+    return holds;
+}
+
+/* ---- counts */
 
 static void count_status(uint32_t port, int32_t status) {
-    counted[port].okay += status == KH_OKAY;
-    counted[port].error += status == KH_ERROR;
-    counted[port].not_supported += status == KH_NOT_SUPPORTED;
+    metered[port].okay += status == KH_OKAY;
+    metered[port].error += status == KH_ERROR;
+    metered[port].not_supported += status == KH_NOT_SUPPORTED;
+}
+
+static void count_started(uint32_t port, const kh_plan *plan) {
+    kh_counters *counters = &counted[port];
+    uint64_t *const requests[] = {&counters->reads,   &counters->writes, &counters->barriers, &counters->flushes, NULL,
+                                  &counters->discards};
+    uint64_t *const sectors[] = {&counters->sectors_read,
+                                 &counters->sectors_written,
+                                 &counters->sectors_written,
+                                 &counters->sectors_written,
+                                 NULL,
+                                 &counters->sectors_discarded};
+    ++*requests[plan->operation];
+    *sectors[plan->operation] += plan->count;
+}
+
+static void check_counters(uint32_t port) {
+    kh_counters due = counted[port], seen = kh_host_counters(&host, port);
+    for (uint32_t tag = 0; tag < KH_TAGS; tag++)
+        due.in_flight += busy[port][tag];
+    due.okay = metered[port].okay;
+    due.errors = metered[port].error;
+    due.not_supported = metered[port].not_supported;
+    same("counters", memcmp(&seen, &due, sizeof due) == 0);
 }
 
 static void bill(uint32_t port) {
-    kh_meter meter = host_take_meter(port);
+    kh_meter meter = kh_host_take_meter(&host, port);
     billed[port].taken += meter.taken;
     billed[port].okay += meter.okay;
     billed[port].error += meter.error;
     billed[port].not_supported += meter.not_supported;
+    check_counters(port);
 }
 
-static void note_in_flight(uint32_t port) {
-    uint32_t in_flight = ports[port].req_cons - ports[port].rsp_prod, *noted = &most[guests[port].pages - 1];
-    if (*noted < in_flight)
-        *noted = in_flight;
+/* ---- each call of both hosts, the lender first */
+
+static bool same_plan(uint32_t port, const kh_plan *here, const kh_plan *there) {
+    bool holds = here->tag == there->tag && here->serial == there->serial && here->operation == there->operation &&
+                 here->start == there->start && here->count == there->count && here->secure == there->secure &&
+                 here->extent_count == there->extent_count;
+    for (size_t i = 0; i < there->extent_count; i++) {
+        const kh_extent *a = &here->extents[i], *b = &there->extents[i];
+        uint32_t frame = has_references ? guests[port].references[b->frame] : b->frame;
+        holds = holds && a->frame == frame && a->first == b->first && a->length == b->length && a->sector == b->sector;
+    }
+    return holds;
+}
+
+static kh_turned lent_turn(void) {
+    uint64_t answer[KH_TURN_WORDS];
+    if (kh_turn(&lender, (uint8_t *)lent, sizeof lent, lent_grants, sizeof lent_grants, answer) != KH_OK)
+        exit(1);
+    return kh_read_turn(answer);
+}
+
+static bool is_served(uint32_t port) {
+    return guests[port].is_open && !guests[port].broken;
+}
+
+/* A guest whose request comes at the last moment before the sleep. */
+static bool publishes_late(void) {
+    uint32_t port = below(KH_PORTS);
+    late.port = port;
+    late.came = false;
+    if (!is_served(port) || !one_in(2))
+        return false;
+    late.what = PUBLISHES;
+    return true;
+}
+
+/* A guest with room left whose request comes when a turn has loaded its req_prod: the turn is not to see it. */
+static bool overtakes(void) {
+    uint32_t port = below(KH_PORTS), ahead = guests[port].published - guests[port].answered;
+    if (has_row || late.what != NOTHING || !is_served(port) || ahead > 32 * guests[port].pages - 2 || !one_in(4))
+        return false;
+    late.what = OVERTAKES;
+    late.port = port;
+    late.came = false;
+    late.looks = 0;
+    for (uint32_t i = 0; i < port; i++)
+        late.looks += is_served(i);
+    overtaken++;
+    return true;
+}
+
+static void note_turn(const kh_turned *turned) {
+    uint32_t port = turned->port, *noted = &most[guests[port].pages - 1];
+    came[turned->kind]++;
+    if (turned->kind == KH_OVERRUN) {
+        guests[port].broken = true;
+        counted[port].overruns++;
+    }
+    if (turned->kind != KH_STARTED && turned->kind != KH_ANSWERED)
+        return;
+    metered[port].taken++;
+    guests[port].taken++;
+    if (turned->kind == KH_ANSWERED) {
+        count_status(port, turned->status);
+        counted[port].refused[turned->reason - 21]++;
+        ungranted += turned->reason == KH_NOT_GRANTED;
+        return;
+    }
+    count_started(port, &turned->plan);
+    plans[KH_TAGS * port + turned->plan.tag] = *turned;
+    busy[port][turned->plan.tag] = true;
+    if (*noted < guests[port].taken - guests[port].answered)
+        *noted = guests[port].taken - guests[port].answered;
 }
 
 static void turn_both(void) {
-    kh_turned here = host_turn(), there = lent_turn();
-    same("turn", here.kind == there.kind && here.port == there.port && here.reason == there.reason &&
-                     here.notify == there.notify && same_plan(&here.plan, &there.plan));
-    came[here.kind]++;
-    counted[here.port].taken += here.kind == KH_STARTED || here.kind == KH_ANSWERED;
-    note_in_flight(here.port);
-    if (here.kind == KH_ANSWERED)
-        count_status(here.port, here.status);
-    if (here.kind == KH_STARTED) {
-        plans[KH_TAGS * here.port + here.plan.tag] = here;
-        busy[here.port][here.plan.tag] = true;
+    kh_turned there = lent_turn(), here;
+    bool idle = there.kind == KH_IDLE, published = idle && publishes_late();
+    note_turn(&there);
+    if (there.kind == KH_ANSWERED)
+        there.notify = gives(there.port, 1, there.notify, true);
+    if (there.kind != KH_OVERRUN && overtakes())
+        published = idle;
+    here = kh_host_turn(&host);
+    bool met = was_at_fence();
+    if (published) {
+        there = lent_turn();
+        note_turn(&there);
+        if (there.kind == KH_ANSWERED)
+            there.notify = gives(there.port, 1, there.notify, false);
     }
+    same("turn", met && here.kind == there.kind && here.port == there.port && here.reason == there.reason &&
+                     here.status == there.status && here.notify == there.notify &&
+                     same_plan(there.port, &here.plan, &there.plan));
 }
 
-static void complete_both(const kh_turned *turned, int32_t result) {
-    uint64_t answer[KH_DONE_WORDS] = {0};
-    bool notify = false;
-    uint32_t tag = turned->plan.tag, serial = turned->plan.serial;
-    uint32_t here = host_complete(turned->port, tag, serial, result, &notify);
-    uint32_t there = kh_complete(&lender, (uint8_t *)lent, sizeof lent, turned->port, tag, serial, result, answer);
-    same("complete", here == there && notify == kh_read_completion(answer).notify);
-    refused += here != KH_OK;
-    if (here == KH_OK) {
-        count_status(turned->port, kh_read_completion(answer).status);
-        busy[turned->port][tag] = false;
+static void complete_both(uint32_t port, uint32_t tag, int32_t result) {
+    uint64_t answer[KH_DONE_WORDS];
+    uint32_t serial = plans[KH_TAGS * port + tag].plan.serial;
+    bool notify = false, due = false;
+    uint32_t there = kh_complete(&lender, (uint8_t *)lent, sizeof lent, port, tag, serial, result, answer);
+    if (there == KH_OK) {
+        kh_completed completed = kh_read_completion(answer);
+        due = gives(port, 1, completed.notify, true);
+        count_status(port, completed.status);
+        busy[port][tag] = false;
     }
+    uint32_t here = kh_host_complete(&host, port, tag, serial, result, &notify);
+    same("complete", was_at_fence() && here == there && notify == due);
+    counted[port].completions_refused += there != KH_OK;
 }
 
 /* Plans of a port that are in flight; in a list that may be bad some that are not, or one twice. */
 static uint32_t write_list(uint32_t port, uint64_t *entries) {
-    uint32_t longest = below(below(4) == 0 ? KH_TAGS + 1 : 8), tag = below(KH_TAGS);
-    bool bad = below(8) == 0;
+    uint32_t longest = below(one_in(4) ? KH_TAGS + 1 : 8), tag = below(KH_TAGS);
+    bool bad = one_in(8);
     uint32_t count = 0;
     for (uint32_t i = 0; i < KH_TAGS && count < longest; i++, tag = (tag + 1) % KH_TAGS) {
-        const kh_turned *turned = &plans[KH_TAGS * port + tag];
-        if (!busy[port][tag] && !(bad && below(16) == 0))
+        const kh_plan *plan = &plans[KH_TAGS * port + tag].plan;
+        if (!busy[port][tag] && !(bad && one_in(16)))
             continue;
-        kh_write_entry(entries, count++, tag, turned->plan.serial, (int32_t)below(3));
-        tag -= bad && below(16) == 0;
+        kh_write_entry(entries, count++, tag, plan->serial, kh_expected_result(plan) - (int32_t)below(2));
+        tag -= bad && one_in(16);
     }
     return count;
 }
 
-/* The list that is being completed, and what the guest asks for when its rsp_prod is out. */
-static struct {
-    uint32_t port, first, count;
-    uint32_t rsp_event;
-} now;
-
-/* All responses are out before rsp_prod is, and rsp_prod before the second look. An empty list comes to no fence. */
-static void meet_fence(memory_order order) {
-    struct ring *ring = &ports[now.port];
-    const uint32_t *share = rings + SHARE_WORDS * now.port;
-    uint32_t rsp_prod = le32toh(*live_word(ring, WORD(KH_RSP_PROD)));
-    bool holds = now.count > 0 && rsp_prod == now.first + (order == memory_order_release ? 0 : now.count);
-    for (uint32_t i = 0; i < now.count; i++)
-        for (size_t at = slot_word(ring, now.first + i), end = at + WORD(ring->response_bytes); at < end; at++)
-            holds = holds && *live_word(ring, at) == share[at];
-    if (order == memory_order_seq_cst)
-        guest_writes(now.port, WORD(KH_RSP_EVENT), now.rsp_event);
-    if (!holds) {
-        printf("tests/c/live.c: responses and rsp_prod are out of order\n");
-        exit(1);
-    }
-}
-
 static void complete_many_both(uint32_t port) {
-    uint64_t entries[KH_ENTRY_WORDS * KH_ENTRIES], answer[KH_MANY_WORDS] = {0};
-    bool notify = false;
-    uint32_t count = write_list(port, entries), first = ports[port].rsp_prod;
-    uint32_t asked = le32toh(lent[SHARE_WORDS * port + WORD(KH_RSP_EVENT)]);
-    now.port = port, now.first = first, now.count = count, now.rsp_event = first + below(count + 3);
-    at_fence = below(2) == 0 ? meet_fence : NULL;
-    uint32_t here = host_complete_many(port, entries, count, &notify);
-    at_fence = NULL;
+    uint64_t entries[KH_ENTRY_WORDS * KH_ENTRIES], answer[KH_MANY_WORDS];
+    uint32_t count = write_list(port, entries);
+    bool notify = false, due = false;
     uint32_t there =
         kh_complete_many(&lender, (uint8_t *)lent, sizeof lent, port, entries, KH_ENTRY_WORDS * count, answer);
-    kh_completed_many completed = kh_read_many(answer);
-    bool early = here == KH_OK && first + count - asked < count;
-    same("complete_many", here == there && notify == (completed.notify || early));
-    asked_late += completed.notify && !early;
-    lists_refused += here != KH_OK;
-    if (here != KH_OK)
-        return;
-    same("list", completed.count == count && completed.port == port);
-    lists[count == 0 ? 0 : count == 1 ? 1 : 2]++;
-    lists_notified += notify && count > 1;
-    for (uint32_t i = 0; i < count; i++) {
-        count_status(port, completed.statuses[i]);
-        busy[port][entries[KH_ENTRY_WORDS * i + KH_ENTRY_TAG]] = false;
+    if (there == KH_OK) {
+        kh_completed_many completed = kh_read_many(answer);
+        due = gives(port, count, completed.notify, true);
+        for (uint32_t i = 0; i < count; i++) {
+            count_status(port, completed.statuses[i]);
+            busy[port][entries[KH_ENTRY_WORDS * i + KH_ENTRY_TAG]] = false;
+        }
     }
+    uint32_t here = kh_host_complete_many(&host, port, entries, count, &notify);
+    same("complete_many", was_at_fence() && here == there && notify == due);
+    counted[port].completions_refused += there != KH_OK;
+    lists_refused += there != KH_OK;
+    lists[count < 2 ? count : 2] += there == KH_OK;
+    lists_notified += notify && count > 1;
 }
 
 /* A guest sets its ring up. The second half of its share, which a ring of one page has no part in, is rubbish. */
 static void guest_begins(uint32_t port) {
     for (size_t i = 0; i < PAGE_WORDS; i++) {
         guest_writes(port, i, i == WORD(KH_REQ_EVENT) || i == WORD(KH_RSP_EVENT));
-        guest_writes(port, PAGE_WORDS + i, below(UINT32_MAX));
+        guest_writes(port, PAGE_WORDS + i, (uint32_t)any());
     }
-    published[port] = 0;
+    guests[port].published = guests[port].taken = guests[port].answered = 0;
 }
 
 static void open_both(uint32_t port) {
-    static const char *const protocols[] = {"x86_64-abi", "x86_32-abi"};
-    uint8_t sheet[] = "\x05\x01\0\x01\0\x06\0\x03\0\x07\0\x04\0\x08\0\x0A\0\x09\0\x01\0w5122008PROTOCOL..#";
-    uint32_t abi = below(2), order = below(2), slot_bytes = abi == 0 ? 112 : 108;
-    volatile uint32_t *live[] = {page_of(port, 0), order == 0 ? NULL : page_of(port, 1)};
-    memcpy(sheet + sizeof sheet - 12, protocols[abi], 10);
-    sheet[sizeof sheet - 2] = (uint8_t)('0' + order);
-    if (ports[port].pages == 0)
+    kh_sheet disk = {.writable = !one_in(8),
+                     .barrier = !one_in(4),
+                     .flush = !one_in(4),
+                     .discard = !one_in(4),
+                     .discard_secure = one_in(2),
+                     .sector_size = one_in(4) ? 1024 : 512,
+                     .sectors = 2008,
+                     .abi = one_in(2) ? KH_BITS32 : KH_BITS64,
+                     .pages = 1 + below(2)};
+    void *live[] = {page_of(port, 0), disk.pages == 1 ? NULL : page_of(port, 1)};
+    uint8_t sheet[KH_SHEET_BYTES];
+    size_t length = kh_write_sheet(&disk, sheet) - one_in(8); /* at times one that is refused */
+    if (!guests[port].is_open)
         guest_begins(port);
-    uint32_t here = host_open(port, sheet, sizeof sheet - 1, live);
-    same("open", here == kh_open(&lender, port, sheet, sizeof sheet - 1));
+    uint32_t here = kh_host_open(&host, port, sheet, length, has_row ? NULL : live);
+    same("open", here == kh_open(&lender, port, sheet, length));
     if (here != KH_OK)
         return;
-    opened[order][abi]++;
-    reshaped += guests[port].slot_bytes != slot_bytes || guests[port].pages != order + 1;
-    guests[port].slot_bytes = slot_bytes;
-    guests[port].pages = order + 1;
+    opened[disk.pages - 1][disk.abi]++;
+    counted[port].opens++;
+    reshaped += guests[port].slot_bytes != kh_slot_bytes(disk.abi) || guests[port].pages != disk.pages;
+    guests[port].slot_bytes = kh_slot_bytes(disk.abi);
+    guests[port].pages = disk.pages;
+    guests[port].is_open = true;
+}
+
+static void close_both(uint32_t port) {
+    uint32_t there = kh_close(&lender, port);
+    bool all_closed = there == KH_OK;
+    same("close", kh_host_close(&host, port) == there);
+    if (there == KH_OK) {
+        counted[port].closes++;
+        guests[port].is_open = guests[port].broken = false;
+        guests[port].taken = guests[port].answered = 0;
+        for (uint32_t i = 0; i < KH_PORTS; i++)
+            all_closed = all_closed && !guests[i].is_open;
+    }
+    if (all_closed)
+        memset(&lender, 0, sizeof lender);
 }
 
 /*
@@ -259,66 +489,177 @@ static void open_both(uint32_t port) {
  * look in between: one that copies has read a waiting request already, and is not to see it rewritten.
  */
 static void draw_back(uint32_t port) {
-    uint32_t legal = published[port], back = below(3);
+    uint32_t legal = guests[port].published, back = below(3);
     guest_publishes(port, back == 0 ? legal + 1000 : legal - back);
     turn_both();
-    if (ports[port].pages == 0 || ports[port].broken)
+    if (!is_served(port))
         return;
-    for (uint32_t i = back == 0 ? ports[port].req_cons : legal - back; i != legal; i++)
+    for (uint32_t i = back == 0 ? guests[port].taken : legal - back; i != legal; i++)
         guest_requests(port, i);
     guest_publishes(port, legal);
     drawn_back++;
 }
 
 static void step(uint32_t port) {
-    switch (below(64)) {
-    case 0:
+    uint32_t kind = below(64), tag = below(KH_TAGS);
+    if (kind == 0)
         open_both(port);
-        break;
-    case 1:
-        same("close", host_close(port) == kh_close(&lender, port));
-        break;
-    case 2:
+    else if (kind == 1)
+        close_both(port);
+    else if (kind == 2)
         draw_back(port);
-        break;
-    case 3:
+    else if (kind == 3)
         bill(port);
-        break;
-    case 4:
+    else if (kind == 4)
         complete_many_both(port);
-        break;
-    default:
-        if (below(3) == 0)
-            guest_step(port);
-        else if (below(2) == 0)
-            turn_both();
-        else
-            complete_both(&plans[below(PLANS)], (int32_t)below(3));
+    else if (kind < 24)
+        guest_step(port);
+    else if (kind < 44)
+        turn_both();
+    else
+        complete_both(port, tag, kh_expected_result(&plans[KH_TAGS * port + tag].plan) - (int32_t)below(2));
+}
+
+/* ---- runs */
+
+/* Each frame of a guest has its grant, and with references a number of 32 bits. */
+static void begin(uint64_t seed) {
+    static const uint32_t ends[] = {UINT32_MAX, KH_PORT_GRANTS, KH_PORT_GRANTS - 1, 0};
+    static const uint8_t grants[] = {2, 2, 2, 2, 2, 2, 2, 2, 2, 2, 2, 2, 2, 2, 1, 1, 1, 0, 3};
+    state = seed;
+    for (uint32_t port = 0; port < KH_PORTS; port++)
+        for (uint32_t frame = 0; frame < KH_PORT_GRANTS; frame++) {
+            lent_grants[KH_PORT_GRANTS * port + frame] = grants[below(sizeof grants)];
+            guests[port].references[frame] = frame < COUNT_OF(ends) ? ends[frame] : (uint32_t)any();
+        }
+    if (has_row ? !kh_host_init_pages(&host, pages) : !kh_host_init(&host))
+        exit(1);
+    host.context = &lender;
+    if (has_references)
+        host.granted = granted;
+    else
+        for (uint32_t port = 0; port < KH_PORTS; port++)
+            memcpy(kh_host_grants(&host, port), lent_grants + KH_PORT_GRANTS * port, KH_PORT_GRANTS);
+    for (uint32_t port = 0; port < KH_PORTS; port++) { /* so that each has a layout from here on, closed or not */
+        guests[port].pages = 1;
+        guests[port].slot_bytes = KH_SLOT_BYTES;
     }
 }
 
-int main(void) {
-    memset(grants, KH_GRANT_READ_WRITE, sizeof grants);
-    for (uint32_t port = 0; port < KH_PORTS; port++) /* so that each has a layout from here on, closed or not */
-        open_both(port);
-    for (int i = 0; i < STEPS; i++)
-        step(below(KH_PORTS));
+static void check_counts(void) {
     for (uint32_t port = 0; port < KH_PORTS; port++)
         bill(port);
-    same("meters", memcmp(billed, counted, sizeof billed) == 0);
-    printf(
-        "     %d steps: idle %lu, started %lu, answered %lu, overrun %lu; opened with one page 64-bit %lu, 32-bit "
-        "%lu, with two %lu, %lu, in another shape than before %lu; most in flight %u and %u; completions refused "
-        "%lu, drawn back %lu; lists of none %lu, of one %lu, of more %lu and %lu of these notified, refused %lu, asked "
-        "for at the last moment %lu\n",
-        STEPS, came[KH_IDLE], came[KH_STARTED], came[KH_ANSWERED], came[KH_OVERRUN], opened[0][0], opened[0][1],
-        opened[1][0], opened[1][1], reshaped, most[0], most[1], refused, drawn_back, lists[0], lists[1], lists[2],
-        lists_notified, lists_refused, asked_late);
-    bool all = came[KH_IDLE] && came[KH_STARTED] && came[KH_ANSWERED] && came[KH_OVERRUN];
-    bool each = reshaped > KH_PORTS && most[0] == 32 && most[1] > 32;
-    bool listed =
-        lists[0] && lists[1] && lists[2] && lists_notified && lists_notified < lists[2] && lists_refused && asked_late;
+    same("meters", memcmp(billed, metered, sizeof billed) == 0);
+    same("hook", (asked > 0) == has_references);
+}
+
+/* Whether each case came up that this file is for. */
+static bool is_complete(void) {
+    bool holds = reshaped > KH_PORTS && most[0] == 32 && most[1] > 32 && drawn_back && ungranted && asked_late &&
+                 (overtaken > 0) == !has_row && lists[0] && lists[1] && lists[2] && lists_notified &&
+                 lists_notified < lists[2] && lists_refused;
     for (int i = 0; i < 4; i++)
-        each = each && opened[i / 2][i % 2] > KH_PORTS;
-    return all && each && listed && refused && drawn_back ? 0 : 1;
+        holds = holds && came[i] && opened[i / 2][i % 2] > KH_PORTS;
+    return holds;
+}
+
+static int run_steps(void) {
+    begin(UINT64_C(0x6B65726E656C6861));
+    for (int i = 0; i < STEPS; i++)
+        step(below(KH_PORTS));
+    check_counts();
+    printf(
+        "     %d steps: idle %lu, started %lu, answered %lu (no grant %lu), overrun %lu; opened with one page 64-bit "
+        "%lu, 32-bit %lu, with two %lu, %lu, in another shape than before %lu; most in flight %u and %u; drawn back "
+        "%lu; lists of none %lu, of one %lu, of more %lu and %lu of these notified, refused %lu; asked for at the "
+        "last moment %lu; overtaken %lu; asked of the hook %lu\n",
+        STEPS, came[KH_IDLE], came[KH_STARTED], came[KH_ANSWERED], ungranted, came[KH_OVERRUN], opened[0][0],
+        opened[0][1], opened[1][0], opened[1][1], reshaped, most[0], most[1], drawn_back, lists[0], lists[1], lists[2],
+        lists_notified, lists_refused, asked_late, overtaken, asked);
+    return is_complete() ? 0 : 1;
+}
+
+static void trace(void *context, const char *line) {
+    CHECK(context == &lender);
+    line_bytes += strlen(line) + 1;
+    fprintf(lines, "%s\n", line);
+}
+
+static void run_long_life(void) {
+    for (uint32_t port = 0; port < KH_PORTS; port++)
+        open_both(port);
+    while (line_bytes < TRACE_BYTES)
+        step(below(KH_PORTS));
+}
+
+static void open_surely(uint32_t port) {
+    while (!guests[port].is_open)
+        open_both(port);
+}
+
+static void end(uint32_t port) {
+    for (uint32_t tag = 0; tag < KH_TAGS; tag++)
+        if (busy[port][tag])
+            complete_both(port, tag, 0);
+    close_both(port);
+}
+
+static void guest_has_one(uint32_t port) {
+    guest_requests(port, 0);
+    guest_publishes(port, 1);
+}
+
+/*
+ * Two ports are used, and closed and opened, while a third is open. The turn before the end serves port 1, so that
+ * port 2 would be next: but then port 1 is, as in a host that begins. The host's grants stay, and are told anew.
+ */
+static void run_life(void) {
+    line_bytes = 0;
+    for (uint32_t port = 0; port < 3; port++)
+        open_surely(port);
+    guest_has_one(1);
+    guest_has_one(2);
+    turn_both();
+    while (line_bytes < LIFE_BYTES)
+        step(1 + below(2));
+    end(2);
+    end(1);
+    open_surely(1);
+    guest_has_one(1);
+    while (guests[1].taken == 0)
+        turn_both();
+    end(1);
+    end(0);
+}
+
+static void run_lives(void) {
+    for (uint32_t port = 3; port < KH_PORTS; port++) {
+        memset(lent_grants + KH_PORT_GRANTS * port, KH_GRANT_NONE, KH_PORT_GRANTS);
+        memset(kh_host_grants(&host, port), KH_GRANT_NONE, KH_PORT_GRANTS);
+    }
+    for (int life = 0; life < LIVES; life++)
+        run_life();
+}
+
+static int run_traced(const char *seed, const char *file, bool lives) {
+    lines = fopen(file, "w");
+    if (lines == NULL)
+        return 2;
+    begin((uint64_t)atoi(seed));
+    host.trace = trace;
+    if (lives)
+        run_lives();
+    else
+        run_long_life();
+    check_counts();
+    return fclose(lines) == 0 ? 0 : 2;
+}
+
+int main(int words, char **word) {
+    const char *way = words > 1 ? word[1] : "";
+    running.name = "live";
+    has_row = strcmp(way, "pages") == 0;
+    has_references = strcmp(way, "references") == 0 || strcmp(way, "trace") == 0;
+    int failed = words > 3 ? run_traced(word[2], word[3], !has_references) : run_steps();
+    return failed || running.failures != 0;
 }

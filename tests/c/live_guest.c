@@ -80,7 +80,8 @@ static void collect_both(void) {
 
 static kh_turned turn(struct side *side) {
     uint64_t answer[KH_TURN_WORDS];
-    kh_turn(&side->memory, (uint8_t *)side->rings, sizeof side->rings, grants, sizeof grants, answer);
+    must("turn",
+         kh_turn(&side->memory, (uint8_t *)side->rings, sizeof side->rings, grants, sizeof grants, answer) == KH_OK);
     return kh_read_turn(answer);
 }
 

@@ -1,9 +1,7 @@
 /*
- * The listing of docs/HOST.md, its transfers run: each run is one preadv or pwritev, whatever machine frames a port's
+ * The listing of docs/HOST.md that moves runs: each run is one preadv or pwritev, whatever machine frames a port's
  * grants are and wherever they are mapped, and disk and frames are left as sector by sector they would be.
  */
-#include "fences.h"
-
 #include "any.h"
 
 #include <sys/uio.h>
@@ -31,7 +29,7 @@ static ssize_t seen_pwritev(int disk, const struct iovec *from, int count, off_t
 #define preadv  seen_preadv
 #define pwritev seen_pwritev
 
-#include "rules.c" /* the listing */
+#include "transfers.c" /* the listing */
 
 /* ---- a port's frames and disk, and what both have to be */
 

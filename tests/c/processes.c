@@ -1,13 +1,14 @@
 /*
  * Guests in processes of their own, half of them 32-bit programs and half with rings of two pages, that share their
- * ring pages with this host: the listing of docs/HOST.md, over the library. Whoever has nothing to do sleeps until it
- * is notified. So a wake-up that is lost leaves both sides asleep, and the host's patience runs out.
+ * ring pages with this host, which has the C helper. Whoever has nothing to do sleeps until it is notified. So a
+ * wake-up that is lost leaves both sides asleep, and the host's patience runs out.
  *
- *     processes GUEST32 GUEST64 PORTS [DEAF]
+ *     processes GUEST32 GUEST64 WAY PORTS [DEAF]
  *
- * The programs, of guest.c; the ports that they are on, a digit to each; and a port whose notifications get lost.
+ * The programs, of guest.c; "copies" or "pages", the way in which rings are lent; the ports that guests are on, a digit
+ * to each; and a port whose notifications get lost.
  */
-#include "rules.c" /* the listing */
+#include <kernelharp_host.h>
 
 #include <errno.h>
 #include <fcntl.h>
@@ -24,8 +25,9 @@ typedef struct {
     uint32_t taken;
 } neighbour;
 
+static kh_host backend;
 static neighbour guests[KH_PORTS];
-static volatile uint32_t *pages;
+static uint8_t *pages;
 static uint32_t deaf = KH_PORTS;
 static unsigned long bells, notifications, listed;
 
@@ -81,11 +83,12 @@ static uint32_t in_flight;
 
 static void open_port(uint32_t port) {
     shape ring = {guest_of[port].is_32_bit ? KH_BITS32 : KH_BITS64, guest_of[port].pages};
-    volatile uint32_t *live[KH_RING_PAGES] = {pages + SHARE_WORDS * port, pages + SHARE_WORDS * port + PAGE_WORDS};
+    uint8_t *first = pages + KH_RING_BYTES * port, *grants = kh_host_grants(&backend, port);
+    void *live[KH_RING_PAGES] = {first, first + KH_PAGE_BYTES};
     sheet s = sheet_for(ring, disk_nodes[guest_of[port].disk]);
-    memset(grants + KH_PORT_GRANTS * port, KH_GRANT_READ_WRITE, 16);
-    grants[KH_PORT_GRANTS * port + FRAME_TO_READ] = KH_GRANT_READ;
-    CHECK_EQ(host_open(port, s.bytes, s.length, live), KH_OK);
+    memset(grants, KH_GRANT_READ_WRITE, 16);
+    grants[FRAME_TO_READ] = KH_GRANT_READ;
+    CHECK_EQ(kh_host_open(&backend, port, s.bytes, s.length, live), KH_OK);
 }
 
 /* Ends one of the plans in flight, not the oldest first. */
@@ -95,7 +98,7 @@ static void complete_one(void) {
     bool notify = false;
     plans[i] = plans[--in_flight];
     int32_t result = result_of(ended.port, ended.plan.serial);
-    CHECK_EQ(host_complete(ended.port, ended.plan.tag, ended.plan.serial, result, &notify), KH_OK);
+    CHECK_EQ(kh_host_complete(&backend, ended.port, ended.plan.tag, ended.plan.serial, result, &notify), KH_OK);
     if (notify)
         notify_guest(ended.port);
 }
@@ -113,7 +116,7 @@ static void complete_port(uint32_t port) {
             plans[left++] = plans[i];
     }
     in_flight = left;
-    CHECK_EQ(host_complete_many(port, entries, count, &notify), KH_OK);
+    CHECK_EQ(kh_host_complete_many(&backend, port, entries, count, &notify), KH_OK);
     listed += count;
     if (notify)
         notify_guest(port);
@@ -122,7 +125,7 @@ static void complete_port(uint32_t port) {
 /* Turns until one is idle, with completions in between; then all the rest of them, port by port. */
 static void serve(void) {
     kh_turned turned;
-    while ((turned = host_turn()).kind != KH_IDLE && running.failures == 0) {
+    while ((turned = kh_host_turn(&backend)).kind != KH_IDLE && running.failures == 0) {
         check_taken(&turned, guests[turned.port].taken++);
         if (turned.kind == KH_STARTED)
             plans[in_flight++] = turned;
@@ -150,7 +153,7 @@ static void run_host(int bell) {
     size_t count = sizeof names;
     while (running.failures == 0 && sleep_until_notified(bell, names, &count)) {
         for (size_t i = 0; i < count; i++)
-            if (ports[names[i]].pages == 0)
+            if (kh_host_counters(&backend, names[i]).opens == 0)
                 open_port(names[i]);
         bells += count;
         count = sizeof names;
@@ -166,8 +169,8 @@ static void check_end(void) {
             continue;
         end_guest(port);
         CHECK_EQ(guests[port].taken, MOST_REQUESTS);
-        CHECK_EQ(le32toh(pages[SHARE_WORDS * port + WORD(KH_RSP_PROD)]), MOST_REQUESTS);
-        CHECK_EQ(host_close(port), KH_OK);
+        CHECK_EQ(get(pages + KH_RING_BYTES * port + KH_RSP_PROD, 4), MOST_REQUESTS);
+        CHECK_EQ(kh_host_close(&backend, port), KH_OK);
     }
 }
 
@@ -181,17 +184,18 @@ static void start_guests(char **programs, const char *on, int file, int bell) {
 int main(int words, char **word) {
     FILE *file = tmpfile();
     int bell[2];
-    if (words < 4 || file == NULL || ftruncate(fileno(file), KH_RINGS_BYTES) != 0)
+    if (words < 5 || file == NULL || ftruncate(fileno(file), KH_RINGS_BYTES) != 0)
         return 2;
-    if (words > 4)
-        deaf = (uint32_t)atoi(word[4]);
+    if (words > 5)
+        deaf = (uint32_t)atoi(word[5]);
     running.name = "guests_in_processes";
-    pages = mmap(NULL, KH_RINGS_BYTES, PROT_READ | PROT_WRITE, MAP_SHARED, fileno(file), 0);
-    if (pages == MAP_FAILED)
+    pages = (uint8_t *)mmap(NULL, KH_RINGS_BYTES, PROT_READ | PROT_WRITE, MAP_SHARED, fileno(file), 0);
+    if (pages == MAP_FAILED ||
+        !(strcmp(word[3], "pages") == 0 ? kh_host_init_pages(&backend, pages) : kh_host_init(&backend)))
         return 2;
     signal(SIGPIPE, SIG_IGN);
     make_pipe(bell);
-    start_guests(word + 1, word[3], fileno(file), bell[1]);
+    start_guests(word + 1, word[4], fileno(file), bell[1]);
     close(bell[1]);
     run_host(bell[0]);
     check_end();

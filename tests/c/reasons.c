@@ -418,8 +418,6 @@ int main(void) {
     static const test tests[] = {
         TEST(reason_21_unknown_operation),
         TEST(reason_22_feature_off),
-        TEST(reason_23_withdrawn),
-        TEST(reason_23_of_no_other_operation),
         TEST(reason_24_read_only),
         TEST(reason_25_segment_count),
         TEST(reason_25_discard_of_0_sectors),
@@ -443,6 +441,8 @@ int main(void) {
         TEST(reason_29_read_write_barrier),
         TEST(reason_29_after_26_27_28),
         TEST(reason_29_no_segments),
+        TEST(reason_23_withdrawn), /* these two take long */
+        TEST(reason_23_of_no_other_operation),
     };
     return run_in_every_shape(tests, COUNT_OF(tests));
 }

@@ -239,26 +239,39 @@ static inline void run_placed(const test *t, shape ring, enum placement where) {
         resize(&h, (enum area)area, 0);
 }
 
-/* Runs a test with its buffers in every place. */
-static inline void run_in_each_place(const test *t, shape ring) {
+/* Where a test's buffers are put, in one run of it after the other. */
 #ifdef __SANITIZE_ADDRESS__
-    run_placed(t, ring, ON_HEAP);
+static const enum placement places[] = {ON_HEAP};
 #else
-    signal(SIGSEGV, on_fault);
-    run_placed(t, ring, AFTER_GUARD);
-    run_placed(t, ring, BEFORE_GUARD);
+static const enum placement places[] = {AFTER_GUARD, BEFORE_GUARD};
 #endif
+
+/* All tests with the buffers in one place and one shape, before any in the next: what one of them finds is found soon,
+ * and ends the run. */
+static inline void run_until_the_first(size_t shape_count, const test *tests, size_t count) {
+    for (size_t run = 0; run < shape_count * COUNT_OF(places); run++)
+        for (size_t i = 0; i < count; i++) {
+            running.name = tests[i].name;
+            run_placed(&tests[i], shapes[run / COUNT_OF(places)], places[run % COUNT_OF(places)]);
+        }
 }
 
-/* Runs the tests with so many of the shapes; a line for each test. */
+/* Runs the tests with so many of the shapes and the buffers in every place; a line for each test. */
 static inline int run_in_shapes(size_t shape_count, const test *tests, size_t count) {
     int failed = 0;
     setvbuf(stdout, NULL, _IOLBF, 0);
+#ifndef __SANITIZE_ADDRESS__
+    signal(SIGSEGV, on_fault);
+#endif
+    if (getenv("STOP_AT_FIRST") != NULL) {
+        run_until_the_first(shape_count, tests, count);
+        return 0;
+    }
     for (size_t i = 0; i < count; i++) {
         running.name = tests[i].name;
         running.failures = 0;
-        for (size_t s = 0; s < shape_count; s++)
-            run_in_each_place(&tests[i], shapes[s]);
+        for (size_t run = 0; run < shape_count * COUNT_OF(places); run++)
+            run_placed(&tests[i], shapes[run / COUNT_OF(places)], places[run % COUNT_OF(places)]);
         printf("%s %s\n", running.failures == 0 ? "ok  " : "FAIL", tests[i].name);
         failed += running.failures != 0;
     }

@@ -5,7 +5,7 @@
 #include "rules.h"
 
 struct counts {
-    unsigned calls, loads, loaded, stores, stored, faults;
+    unsigned calls, loads, loaded, stores, stored, published, faults;
 };
 
 static const struct backend *backend;
@@ -19,7 +19,14 @@ static void add(struct counts *sum, const struct counts *more) {
     sum->loaded += more->loaded;
     sum->stores += more->stores;
     sum->stored += more->stored;
+    sum->published += more->published;
     sum->faults += more->faults;
+}
+
+/* req_prod of a put, rsp_prod of all else: what the call has stored in slots is the other side's from here on. */
+static bool publishes(const struct access *access) {
+    unsigned in_ring = access->at % SHARE_BYTES;
+    return access->store && (in_ring == REQ_PROD || in_ring == RSP_PROD);
 }
 
 static struct counts count(const struct trace *trace) {
@@ -30,6 +37,7 @@ static struct counts count(const struct trace *trace) {
         counts.loaded += access->load ? access->size : 0;
         counts.stores += access->store;
         counts.stored += access->store ? access->size : 0;
+        counts.published += publishes(access);
     }
     return counts;
 }
@@ -62,7 +70,7 @@ static void check(const struct scenario *scenario) {
         end_name();
     last = *scenario;
     trap_begin(&trace, NULL);
-    call_backend(backend, &scenario->call, rings, &outcome);
+    call_backend(backend, &scenario->call, out_of_reach, &outcome);
     trap_end();
     struct counts counts = count(&trace);
     counts.faults = judge(scenario, &trace) + judge_outcome(scenario, &outcome);
@@ -75,5 +83,8 @@ unsigned check_accesses(const struct backend *under_test) {
     end_name();
     printf("%u scenarios, %u at fault: %u calls, %u loads of %u bytes, %u stores of %u bytes\n", names, names_at_fault,
            of_all.calls, of_all.loads, of_all.loaded, of_all.stores, of_all.stored);
+    printf("%u calls published what they had put into slots: %s\n", of_all.published,
+           of_all.faults ? "not all of them in the due order"
+                         : "every byte of it was stored before the index, which was stored whole and once");
     return of_all.faults;
 }

@@ -1,3 +1,4 @@
+#define _GNU_SOURCE
 #include "bench.h"
 
 #include <stdarg.h>
@@ -5,11 +6,13 @@
 #include <stdlib.h>
 #include <string.h>
 #include <sys/mman.h>
+#include <unistd.h>
 
 /* Far from where a heap begins, with or without valgrind. lackey.awk has these numbers too. */
 #define MARKERS_AT   0x100000000
 #define RINGS_AT     0x100002000
-#define MAPPED_BYTES (RINGS_AT - MARKERS_AT + KH_RINGS_BYTES + PAGE_BYTES)
+#define FAULTS_AT    0x100014000
+#define MAPPED_BYTES (FAULTS_AT - MARKERS_AT + KH_RINGS_BYTES + PAGE_BYTES)
 
 const struct layout layouts[] = {
     [KH_BITS64] = {"x86_64-abi", 112, 16, 8, 16, 24},
@@ -25,6 +28,7 @@ const struct shape shapes[SHAPES] = {
 
 struct bench bench;
 uint8_t *const rings = (uint8_t *)RINGS_AT;
+uint8_t *const out_of_reach = (uint8_t *)FAULTS_AT;
 volatile uint64_t *const markers = (volatile uint64_t *)MARKERS_AT;
 const struct backend archive = {kh_turn, kh_complete, kh_complete_many, kh_guest_put, kh_guest_collect};
 
@@ -37,6 +41,17 @@ _Noreturn void fail(const char *format, ...) {
     exit(2);
 }
 
+/* The rings' bytes, in two places. */
+static void map_rings(void) {
+    int file = memfd_create("rings", 0);
+    if (file < 0 || ftruncate(file, KH_RINGS_BYTES) != 0)
+        fail("no memory for the rings");
+    if (mmap(rings, KH_RINGS_BYTES, PROT_READ | PROT_WRITE, MAP_SHARED | MAP_FIXED, file, 0) != rings ||
+        mmap(out_of_reach, KH_RINGS_BYTES, PROT_NONE, MAP_SHARED | MAP_FIXED, file, 0) != out_of_reach)
+        fail("no room for the rings");
+    close(file);
+}
+
 /* A page that nobody may touch lies on each side of the rings. */
 void map_buffers(void) {
     int flags = MAP_PRIVATE | MAP_ANONYMOUS | MAP_FIXED_NOREPLACE;
@@ -45,8 +60,7 @@ void map_buffers(void) {
         fail("no room for the rings at their fixed address");
     if (mprotect(all, PAGE_BYTES, PROT_READ | PROT_WRITE) != 0)
         fail("mprotect of the markers");
-    if (mprotect(rings, KH_RINGS_BYTES, PROT_READ | PROT_WRITE) != 0)
-        fail("mprotect of the rings");
+    map_rings();
     if (kh_version() != KH_VERSION || kh_memory_words() != KH_MEMORY_WORDS)
         fail("an archive of version %u with %u words of memory", kh_version(), kh_memory_words());
     if (kh_guest_words() != KH_GUEST_WORDS)

@@ -62,6 +62,9 @@ extern struct bench bench;
 /* The ring buffer lies at a fixed address, so that two traces of it can be compared. */
 extern uint8_t *const rings;
 
+/* The same bytes where any access faults. */
+extern uint8_t *const out_of_reach;
+
 /* A store to the first word says that a call begins, to the second that it has ended: seen in a trace. */
 extern volatile uint64_t *const markers;
 

@@ -34,9 +34,9 @@ static uint64_t reg(const ucontext_t *at, unsigned number) {
 
 /* The address that ModRM, SIB and displacement name. Not known: a register operand, or one that counts from the next
  * instruction. */
-static bool address(const ucontext_t *at, const struct instruction *in, const uint8_t *modrm, uintptr_t *out) {
-    unsigned mode = *modrm >> 6, base = *modrm & 7;
-    const uint8_t *displacement = modrm + 1;
+static bool address(const ucontext_t *at, const struct instruction *in, struct operand *out) {
+    unsigned mode = *in->next >> 6, base = *in->next & 7;
+    const uint8_t *displacement = in->next + 1;
     uint64_t sum = 0;
     if (mode == 3 || (mode == 0 && base == 5))
         return false;
@@ -47,16 +47,20 @@ static bool address(const ucontext_t *at, const struct instruction *in, const ui
         if (index != 4)
             sum += reg(at, index) << (sib >> 6);
     }
-    if (mode == 0 && base == 5)
-        mode = 2;
-    else
+    out->has_base = mode != 0 || base != 5;
+    if (out->has_base)
         sum += reg(at, base + (in->rex & REX_B ? 8 : 0));
-    int32_t far = 0;
+    else
+        mode = 2;
+    out->far = 0;
     if (mode == 1)
-        far = (int8_t)*displacement;
+        out->far = (int8_t)*displacement;
     else if (mode == 2)
-        memcpy(&far, displacement, sizeof far);
-    *out = sum + (uint64_t)(int64_t)far;
+        memcpy(&out->far, displacement, sizeof out->far);
+    out->modrm = in->next;
+    out->displacement = displacement;
+    out->immediate = displacement + (mode == 2 ? 4 : mode);
+    out->address = sum + (uint64_t)(int64_t)out->far;
     return true;
 }
 
@@ -107,6 +111,22 @@ static bool one_byte(const struct instruction *in, uint8_t opcode, uint8_t modrm
     return false;
 }
 
+/* Of the opcodes that are known, those have one. */
+static unsigned immediate_size(const struct instruction *in, uint8_t opcode) {
+    switch (opcode) {
+    case 0x80:
+    case 0x83:
+    case 0xC6:
+    case 0xF6:
+        return 1;
+    case 0x81:
+    case 0xC7:
+    case 0xF7:
+        return general_size(in) == 2 ? 2 : 4;
+    }
+    return 0;
+}
+
 static unsigned vector_size(const struct instruction *in) {
     return in->rep ? 4 : in->repne ? 8 : 16;
 }
@@ -155,8 +175,32 @@ bool decode(const ucontext_t *at, struct operand *operand) {
     if (opcode == 0x0F) {
         opcode = *in.next++;
         known = two_bytes(&in, opcode, operand);
+        operand->immediate_bytes = 0;
     } else {
         known = one_byte(&in, opcode, *in.next, operand);
+        operand->immediate_bytes = immediate_size(&in, opcode);
     }
-    return known && address(at, &in, in.next, &operand->address);
+    return known && address(at, &in, operand);
+}
+
+static uint8_t *append(uint8_t *to, const void *bytes, size_t count) {
+    memcpy(to, bytes, count);
+    return to + count;
+}
+
+bool write_moved(const ucontext_t *at, const struct operand *operand, int32_t by, uint8_t *code) {
+    static const uint8_t jump[] = {0xFF, 0x25, 0, 0, 0, 0}; /* to the address that follows */
+    const uint8_t *first = (const uint8_t *)at->uc_mcontext.gregs[REG_RIP];
+    const uint8_t *next = operand->immediate + operand->immediate_bytes, *modrm = operand->modrm;
+    int32_t far;
+    if (__builtin_add_overflow(operand->far, by, &far))
+        return false;
+    code = append(code, first, (size_t)(modrm - first));
+    *code++ = operand->has_base ? (*modrm & 0x3F) | 0x80 : *modrm; /* with a displacement of four bytes */
+    code = append(code, modrm + 1, (size_t)(operand->displacement - modrm - 1));
+    code = append(code, &far, sizeof far);
+    code = append(code, operand->immediate, operand->immediate_bytes);
+    code = append(code, jump, sizeof jump);
+    append(code, &next, sizeof next);
+    return true;
 }

@@ -15,10 +15,10 @@ unsigned check_shut(const struct backend *backend);
    rings of one page. */
 unsigned check_changes(const struct backend *backend, const char *only);
 
-/* The accesses of the archive's samples, in the words of valgrind's lackey. */
-void list_accesses(void);
+/* The accesses of the archive's samples, in the words of valgrind's lackey. The calls go to a file. */
+void list_accesses(const char *path);
 
-/* The samples with no trap, between stores to the markers, for another tracer. */
-void run_plainly(void);
+/* The calls of that file with no trap, between stores to the markers, for another tracer. */
+void run_plainly(const char *path);
 
 #endif

@@ -31,7 +31,7 @@ void traced_call(const struct backend *backend, const struct call *call, meddler
                  struct result *result) {
     memset(&result->outcome, 0, sizeof result->outcome);
     trap_begin(trace, meddle);
-    call_backend(backend, call, rings, &result->outcome);
+    call_backend(backend, call, out_of_reach, &result->outcome);
     trap_end();
     result->memory = bench.memory;
     result->guest = bench.guest;

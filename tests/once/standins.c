@@ -8,6 +8,7 @@ static const char *const names[] = {
     [REQ_PROD_TWICE] = "req-prod-twice",
     [REQ_PROD_BY_BYTES] = "req-prod-by-bytes",
     [LOOKS_FURTHER] = "looks-further",
+    [SLOT_FIRST] = "slot-first",
     [SLOT_OVERLAP] = "slot-overlap",
     [TAIL_OVERLAP] = "tail-overlap",
     [SLOT_TOO_FAR] = "slot-too-far",
@@ -106,19 +107,6 @@ static void take_req_prod(unsigned port) {
         take32(at);
 }
 
-/* The port that has something to serve, or PORTS. */
-static unsigned look(void) {
-    for (unsigned i = 0; i < PORTS; i++) {
-        unsigned k = (bench.pointer + i) % PORTS;
-        if (bench.ports[k].state != OPEN)
-            continue;
-        take_req_prod(k);
-        if (load32(copy + header_at(k, REQ_PROD)) != bench.ports[k].taken)
-            return k;
-    }
-    return PORTS;
-}
-
 /* Where the slot of an index would be in every ring, if it had as many slots as these faults say. */
 static unsigned slot_seen(unsigned port, uint32_t index, enum fault by_32, enum fault by_64) {
     unsigned slots = fault == by_32 ? 32 : fault == by_64 ? 64 : slots_of(port);
@@ -144,6 +132,21 @@ static void take_slot(unsigned port) {
     if (fault == SECOND_HALF_LOADED && bench.ports[port].pages == 1)
         take32(SHARE_BYTES * port + PAGE_BYTES);
     memmove(copy + slot_at(port, index), copy + at, bytes);
+}
+
+/* The port that has something to serve, or PORTS. */
+static unsigned look(void) {
+    for (unsigned i = 0; i < PORTS; i++) {
+        unsigned k = (bench.pointer + i) % PORTS;
+        if (bench.ports[k].state != OPEN)
+            continue;
+        if (fault == SLOT_FIRST)
+            take_slot(k);
+        take_req_prod(k);
+        if (load32(copy + header_at(k, REQ_PROD)) != bench.ports[k].taken)
+            return k;
+    }
+    return PORTS;
 }
 
 static bool waits(unsigned port) {
@@ -220,7 +223,8 @@ static void look_at_boundaries(unsigned port, const kh_memory *memory, const uin
     unsigned at = slot_at(port, bench.ports[port].taken) + layout_of(port)->segments;
     tried = *memory;
     memcpy(tried_rings, copy, sizeof tried_rings);
-    kh_turn(&tried, tried_rings, KH_RINGS_BYTES, grants, KH_GRANTS_BYTES, answer);
+    if (kh_turn(&tried, tried_rings, KH_RINGS_BYTES, grants, KH_GRANTS_BYTES, answer) != KH_OK)
+        abort();
     for (unsigned i = 0; bench.ports[port].unit > 1 && i < answer[KH_TURN_EXTENT_COUNT]; i++)
         take32(at + 8 * i + 4);
 }
@@ -257,7 +261,7 @@ static uint32_t turn(kh_memory *memory, uint8_t *lent, size_t rings_bytes, const
         return kh_turn(memory, copy, rings_bytes, grants, grants_bytes, answer);
     live = lent;
     unsigned port = look();
-    if (port != PORTS && waits(port))
+    if (port != PORTS && waits(port) && fault != SLOT_FIRST)
         take_slot(port);
     if (port != PORTS && fault == BOUNDARIES_AGAIN)
         look_at_boundaries(port, memory, grants);

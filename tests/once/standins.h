@@ -14,6 +14,7 @@ enum fault {
     REQ_PROD_TWICE,
     REQ_PROD_BY_BYTES,
     LOOKS_FURTHER,
+    SLOT_FIRST,
     SLOT_OVERLAP,
     TAIL_OVERLAP,
     SLOT_TOO_FAR,

@@ -10,10 +10,10 @@
 #include "bench.h"
 #include "decode.h"
 
-enum { TRAP_FLAG = 0x100 };
-
 static struct trace *current;
+static bool under_way; /* the access behind the last of the trace */
 static meddler *meddle_with;
+static uint8_t *moved; /* the instruction under way */
 
 /* A trace that has a gap would be worth nothing: the run ends. */
 static _Noreturn void give_up(const char *why, const ucontext_t *at, const void *address) {
@@ -25,13 +25,8 @@ static _Noreturn void give_up(const char *why, const ucontext_t *at, const void 
     _exit(2);
 }
 
-static void reach(bool within) {
-    if (mprotect(rings, KH_RINGS_BYTES, within ? PROT_READ | PROT_WRITE : PROT_NONE) != 0)
-        _exit(2);
-}
-
 static bool lies_in_rings(const struct operand *operand) {
-    uintptr_t from = (uintptr_t)rings;
+    uintptr_t from = (uintptr_t)out_of_reach;
     return from <= operand->address && operand->address + operand->size <= from + KH_RINGS_BYTES;
 }
 
@@ -40,6 +35,27 @@ static bool is_own(const ucontext_t *at) {
     extern const char __executable_start[], etext[];
     const char *code = (const char *)at->uc_mcontext.gregs[REG_RIP];
     return __executable_start <= code && code < etext;
+}
+
+/* Nobody has touched the rings since. */
+static void end_access(void) {
+    struct access *access = &current->list[current->count];
+    if (!under_way)
+        return;
+    memcpy(access->stored, rings + access->at, access->size);
+    current->count++;
+    under_way = false;
+}
+
+static void note(const ucontext_t *at, const struct operand *operand) {
+    struct access *access = &current->list[current->count];
+    access->instruction = (uintptr_t)at->uc_mcontext.gregs[REG_RIP];
+    access->at = (unsigned)(operand->address - (uintptr_t)out_of_reach);
+    access->size = operand->size;
+    access->load = operand->load;
+    access->store = operand->store;
+    memcpy(access->loaded, rings + access->at, access->size);
+    under_way = true;
 }
 
 static void before(int signal, siginfo_t *info, void *context) {
@@ -52,52 +68,33 @@ static void before(int signal, siginfo_t *info, void *context) {
         give_up("not known", at, info->si_addr);
     if (!lies_in_rings(&operand) || operand.address != (uintptr_t)info->si_addr)
         give_up("another address than decoded", at, info->si_addr);
+    end_access();
     if (current->count == MOST_ACCESSES)
         give_up("too many accesses", at, info->si_addr);
-    reach(true);
     if (meddle_with)
         meddle_with(current->count);
-    struct access *access = &current->list[current->count];
-    access->instruction = (uintptr_t)at->uc_mcontext.gregs[REG_RIP];
-    access->at = (unsigned)(operand.address - (uintptr_t)rings);
-    access->size = operand.size;
-    access->load = operand.load;
-    access->store = operand.store;
-    memcpy(access->loaded, rings + access->at, access->size);
-    at->uc_mcontext.gregs[REG_EFL] |= TRAP_FLAG;
-}
-
-static void after(int signal, siginfo_t *info, void *context) {
-    (void)signal;
-    ucontext_t *at = context;
-    if (!current)
-        give_up("a trap outside a call", at, info->si_addr);
-    struct access *access = &current->list[current->count];
-    memcpy(access->stored, rings + access->at, access->size);
-    current->count++;
-    at->uc_mcontext.gregs[REG_EFL] &= ~(greg_t)TRAP_FLAG;
-    reach(false);
-}
-
-static void on(int signal, void handler(int, siginfo_t *, void *)) {
-    struct sigaction action = {.sa_sigaction = handler, .sa_flags = SA_SIGINFO};
-    if (sigaction(signal, &action, NULL) != 0)
-        fail("sigaction");
+    note(at, &operand);
+    if (!write_moved(at, &operand, (int32_t)(rings - out_of_reach), moved))
+        give_up("too far away", at, info->si_addr);
+    at->uc_mcontext.gregs[REG_RIP] = (greg_t)(uintptr_t)moved;
 }
 
 void trap_install(void) {
-    on(SIGSEGV, before);
-    on(SIGTRAP, after);
+    struct sigaction action = {.sa_sigaction = before, .sa_flags = SA_SIGINFO};
+    if (sigaction(SIGSEGV, &action, NULL) != 0)
+        fail("sigaction");
+    moved = mmap(NULL, MOST_MOVED_BYTES, PROT_READ | PROT_WRITE | PROT_EXEC, MAP_PRIVATE | MAP_ANONYMOUS, -1, 0);
+    if (moved == MAP_FAILED)
+        fail("no room for an instruction");
 }
 
 void trap_begin(struct trace *trace, meddler *meddle) {
     trace->count = 0;
     current = trace;
     meddle_with = meddle;
-    reach(false);
 }
 
 void trap_end(void) {
-    reach(true);
+    end_access();
     current = NULL;
 }

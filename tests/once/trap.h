@@ -1,5 +1,5 @@
-/* Every access to the rings, trapped: the pages are out of reach during a call, and each instruction that asks for them
- * is let through alone. */
+/* Every access to the rings, trapped: a call that is lent them out of reach faults at each instruction that asks for
+   them, and a copy of the instruction does the same within reach. */
 #ifndef ONCE_TRAP_H
 #define ONCE_TRAP_H
 
@@ -24,6 +24,8 @@ struct trace {
 typedef void meddler(unsigned number);
 
 void trap_install(void);
+
+/* From the one to the other, calls are lent `out_of_reach`. */
 void trap_begin(struct trace *trace, meddler *meddle);
 void trap_end(void);
 

@@ -29,12 +29,12 @@ pub use putting::kh_guest_put;
 pub use turning::kh_turn;
 
 // major * 10000 + minor * 100 + patch
-const VERSION: u32 = 1000;
+const VERSION: u32 = 1100;
 
 // Which version the archive is.
 #[no_mangle]
 pub extern "C" fn kh_version() -> u32
-    ensures { λ n. ⌜ n ≡ 1000 ⌝ }
+    ensures { λ n. ⌜ n ≡ 1100 ⌝ }
 {
     VERSION
 }

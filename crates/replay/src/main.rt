@@ -1,9 +1,10 @@
 // Runs a list of calls from the empty backend and writes each answer, a line to each.
 //
-// The input, from standard input, at most 65,536 bytes: a letter begins a line, and decimal numbers follow, at most 256, each behind a blank.
+// The input, from standard input, at most 65,536 bytes: a letter begins a line, and decimal numbers follow, at most 256, each behind a blank. Where there is
+// more, the lines that are whole are run, and the last line of the output says so.
 //   # TEXT                        a comment, written out as it stands
 //   b PORT OFFSET BYTE ..         bytes into the port's share of the rings, from this offset on: what a guest writes
-//   g PORT FRAME BYTE             the port's grant byte for this frame
+//   g PORT FRAME BYTE ..          the port's grant bytes, from this frame on
 //   o PORT BYTE ..                open with this sheet
 //   c PORT                        close
 //   t                             turn
@@ -54,15 +55,21 @@ const GRANT_PLACES: u64 = PORT_GRANTS as u64;
 
 const LENT_GRANTS: u64 = GRANTS_BYTES as u64;
 
-// The bytes from a place on, as far as the rings go.
-fn put_bytes(rings: &mut [u8; RINGS_BYTES], from: usize, bytes: &[u8]) {
+// A byte at a place, where there is room; returns the place behind it.
+fn put_byte(room: &mut [u8], at: usize, byte: u8) -> usize {
+    if room.len() <= at {
+        return at;
+    }
+    room[at] = byte;
+    at + 1
+}
+
+// The bytes from a place on, as far as there is room.
+fn put_bytes(room: &mut [u8], from: usize, bytes: &[u8]) {
     let mut at = from;
     let mut i = 0;
     while i < bytes.len() {
-        if at < RINGS_BYTES {
-            rings[at] = bytes[i];
-            at += 1;
-        }
+        at = put_byte(room, at, bytes[i]);
         i += 1;
     }
 }
@@ -82,9 +89,12 @@ fn guest(
     put_bytes(shown, at, &bytes[2..]);
 }
 
-fn grant(grants: &mut [u8; GRANTS_BYTES], c: &[u64; NUMBERS]) {
+fn grant(grants: &mut [u8; GRANTS_BYTES], c: &[u64; NUMBERS], bytes: &[u8]) {
+    if bytes.len() < 2 {
+        return;
+    }
     let at = (c[0] % PORT_COUNT * GRANT_PLACES + c[1] % GRANT_PLACES) as usize;
-    grants[at] = (c[2] % 256) as u8;
+    put_bytes(grants, at, &bytes[2..]);
 }
 
 // The sheet stands behind the port.
@@ -270,7 +280,7 @@ fn run_line(
         return;
     }
     if letter == b'g' {
-        grant(grants, &c);
+        grant(grants, &c, &bytes[..n]);
         return;
     }
     if letter == b'z' {
@@ -310,8 +320,8 @@ fn read_line(
     run_line(memory, rings, shown, grants, meters, line, letter);
 }
 
-// Every line of the input, from the empty backend.
-fn run(text: &[u8]) {
+// Every line of the input, from the empty backend; a last one without its end only where the input ends there.
+fn run(text: &[u8], is_whole: bool) {
     let mut memory = [0u64; WORDS];
     let mut rings = [0u8; RINGS_BYTES];
     let mut shown = [0u8; RINGS_BYTES];
@@ -320,14 +330,16 @@ fn run(text: &[u8]) {
     let mut at = 0;
     while at < text.len() {
         let end = input::find(text, at, b'\n');
-        read_line(
-            &mut memory,
-            &mut rings,
-            &mut shown,
-            &mut grants,
-            &mut meters,
-            &text[at..end],
-        );
+        if is_whole || end < text.len() {
+            read_line(
+                &mut memory,
+                &mut rings,
+                &mut shown,
+                &mut grants,
+                &mut meters,
+                &text[at..end],
+            );
+        }
         at = end + 1;
     }
 }
@@ -335,5 +347,9 @@ fn run(text: &[u8]) {
 fn main() {
     let mut text = io::large_buffer();
     let n = io::read_full(STDIN_FILENO, &mut text);
-    run(&text[..n]);
+    let is_whole = n < text.len();
+    run(&text[..n], is_whole);
+    if !is_whole {
+        output::text(b"cut: no more than 65,536 bytes are read\n");
+    }
 }

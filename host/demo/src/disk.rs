@@ -20,9 +20,11 @@ const MOST_BYTES: usize = 11 * 8 * SECTOR;
 const INPUT_OUTPUT_ERROR: i32 = -5;
 const NOT_SUPPORTED: i32 = -95;
 
-/// An image file: the disk, then the guard.
+/// A disk in a file: an image, behind which is the guard, or a slice of a volume.
 pub struct Disk {
     file: File,
+    /// The sector of the file that the disk begins with.
+    begin: u64,
     sectors: u64,
     discards: bool,
     bad: Range<u64>,
@@ -39,23 +41,25 @@ impl Disk {
     pub fn create(path: &Path, profile: &Profile, model: &Model) -> io::Result<Disk> {
         let mut options = OpenOptions::new();
         let file = options.read(true).write(true).create_new(true).open(path)?;
-        let disk = Disk {
+        let disk = Disk::slice(file, 0, profile);
+        disk.file.write_all_at(&model.bytes(), 0)?;
+        let guard = vec![GUARD_BYTE; offset(GUARD_SECTORS) as usize];
+        disk.file.write_all_at(&guard, offset(disk.sectors))?;
+        Ok(disk)
+    }
+
+    /// A disk that is a part of a file.
+    pub fn slice(file: File, begin: u64, profile: &Profile) -> Disk {
+        Disk {
             file,
+            begin,
             sectors: profile.sheet.sectors,
             discards: profile.discards,
             bad: profile.bad.clone(),
             buffer: vec![0; MOST_BYTES],
             calls: 0,
             extents: 0,
-        };
-        let mut bytes = [0; SECTOR];
-        for (sector, &version) in (0..).zip(model.versions(0, disk.sectors)) {
-            model.fill(sector, version, &mut bytes);
-            disk.file.write_all_at(&bytes, offset(sector))?;
         }
-        let guard = vec![GUARD_BYTE; offset(GUARD_SECTORS) as usize];
-        disk.file.write_all_at(&guard, offset(disk.sectors))?;
-        Ok(disk)
     }
 
     /// Does what a plan asks for, moves its bytes run by run, and gives the result to complete it with.
@@ -82,7 +86,8 @@ impl Disk {
         for run in runs {
             let bytes = &mut self.buffer[..offset(run.length) as usize];
             self.calls += 1;
-            self.file.read_exact_at(bytes, offset(run.sector))?;
+            let at = offset(self.begin + run.sector);
+            self.file.read_exact_at(bytes, at)?;
             frames.write_machine(run.frame, run.first, bytes);
         }
         Ok(())
@@ -93,7 +98,8 @@ impl Disk {
             let bytes = &mut self.buffer[..offset(run.length) as usize];
             frames.read_machine(run.frame, run.first, bytes);
             self.calls += 1;
-            self.file.write_all_at(bytes, offset(run.sector))?;
+            let at = offset(self.begin + run.sector);
+            self.file.write_all_at(bytes, at)?;
         }
         Ok(())
     }
@@ -101,10 +107,11 @@ impl Disk {
     /// A discard, secure or not: zeros are written over what was there.
     fn zero(&self, plan: &Plan) -> io::Result<()> {
         let zeros = vec![0; offset(plan.count) as usize];
-        self.file.write_all_at(&zeros, offset(plan.start))
+        self.file
+            .write_all_at(&zeros, offset(self.begin + plan.start))
     }
 
-    /// Checks the guard and, where there is a model, each byte of the disk. Gives how many bytes
+    /// Of an image: checks the guard and, where there is a model, each byte of the disk. Gives how many bytes
     /// were checked.
     pub fn verify(&self, model: Option<&Model>) -> Result<u64, String> {
         let sectors = self.sectors + GUARD_SECTORS;
@@ -131,6 +138,6 @@ impl Disk {
     }
 }
 
-fn offset(sectors: u64) -> u64 {
+pub fn offset(sectors: u64) -> u64 {
     sectors * SECTOR as u64
 }

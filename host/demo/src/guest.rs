@@ -3,6 +3,7 @@
 use crate::batch::{Batch, Job, READ, WRITE};
 use crate::front::{Front, Response};
 use crate::link::{Link, State, BOUND};
+use crate::pace::Pace;
 use crate::pattern::Model;
 use crate::profile::{Profile, Role};
 use crate::report::Checks;
@@ -11,9 +12,22 @@ use generate::Random;
 use kernelharp::{Refusal, Status};
 use std::collections::HashMap;
 use std::sync::atomic::Ordering;
+use std::time::Instant;
 
 /// Rounds of a day.
 const HOURS: u64 = 24;
+
+/// What a guest ends with.
+#[derive(Debug, Default)]
+pub struct End {
+    pub checks: Checks,
+    /// What its disk must hold; none of a guest that does not say.
+    pub model: Option<Model>,
+    pub pace: Pace,
+}
+
+/// Requests that have no response yet, by id, and when they were put.
+type Due = HashMap<u64, (Job, Instant)>;
 
 /// A guest with its idea of its disk.
 pub struct Guest<'a> {
@@ -25,6 +39,7 @@ pub struct Guest<'a> {
     random: Random,
     next_id: u64,
     checks: Checks,
+    pace: Pace,
 }
 
 impl<'a> Guest<'a> {
@@ -46,21 +61,25 @@ impl<'a> Guest<'a> {
             next_id: random.word(),
             random,
             checks: Checks::default(),
+            pace: Pace::default(),
         })
     }
 
-    /// Lives for some rounds, then asks the host to close the port. Gives what was checked and what
-    /// the disk must hold now.
-    pub fn run(mut self, rounds: u64) -> Result<(Checks, Option<Model>), String> {
+    /// Lives for some rounds, then asks the host to close the port.
+    pub fn run(mut self, rounds: u64) -> Result<End, String> {
+        let begin = Instant::now();
         let lived = (0..rounds).try_for_each(|round| {
             self.link.rounds.store(round, Ordering::Relaxed);
             self.round(round)
         });
+        self.pace.lived = begin.elapsed();
         self.link.go(State::Closing, self.to_host);
-        match lived {
-            Ok(()) => Ok((self.checks, Some(self.model))),
-            Err(fault) => Err(format!("{}: {fault}", self.profile.name)),
-        }
+        lived.map_err(|fault| format!("{}: {fault}", self.profile.name))?;
+        Ok(End {
+            checks: self.checks,
+            model: Some(self.model),
+            pace: self.pace,
+        })
     }
 
     fn round(&mut self, round: u64) -> Result<(), String> {
@@ -108,10 +127,11 @@ impl<'a> Guest<'a> {
         let jobs = batch.jobs;
         let slots = self.profile.slots();
         assert!(jobs.len() <= slots, "a round is one ring at most");
-        let (mut lot, all, mut due) = (0, jobs.len(), HashMap::new());
+        let (mut lot, all, mut due) = (0, jobs.len(), Due::new());
         for (number, job) in jobs.into_iter().enumerate() {
+            let now = Instant::now();
             if self.put(&job)? {
-                due.insert(job.wish.id, job);
+                due.insert(job.wish.id, (job, now));
             }
             if lot == 0 {
                 lot = 1 + self.random.index(all - number);
@@ -146,12 +166,13 @@ impl<'a> Guest<'a> {
     }
 
     /// Sleeps until each request has its one response, and checks it.
-    fn collect(&mut self, mut due: HashMap<u64, Job>) -> Result<(), String> {
+    fn collect(&mut self, mut due: Due) -> Result<(), String> {
         loop {
             while let Some(response) = self.front.collect()? {
-                let Some(job) = due.remove(&response.id) else {
+                let Some((job, put)) = due.remove(&response.id) else {
                     return Err(format!("{response:?} has no request, or a second time"));
                 };
+                self.pace.note(put);
                 self.check(&job, &response)?;
             }
             if due.is_empty() {

@@ -2,13 +2,14 @@
 
 use crate::disk::Disk;
 use crate::frames::{grants, Frames};
+use crate::lent::Lent;
 use crate::link::{Link, State, BOUND};
-use crate::profile::Profile;
+use crate::profile::{Profile, Role};
 use crate::report::{Counts, Progress};
+use crate::waits::MOST_TURNS;
 use frontend::EventChannel;
 use generate::Random;
 use kernelharp::layout::{ENTRIES, EXTENTS, PORTS};
-use kernelharp::live::LiveBackend;
 use kernelharp::{
     Abi, Entry, Extent, Name, Operation, Pages, Plan, Port, Refusal, Run, Sheet, Status, Turn,
 };
@@ -22,7 +23,7 @@ const PERIOD: u64 = 500;
 
 /// The host of eight guests.
 pub struct Host<'a> {
-    backend: LiveBackend,
+    backend: Lent,
     profiles: &'a [Profile],
     links: &'a [Link],
     bell: &'a EventChannel,
@@ -42,10 +43,10 @@ impl<'a> Host<'a> {
         links: &'a [Link],
         bell: &'a EventChannel,
         disks: &'a mut [Disk],
+        backend: Lent,
         random: Random,
-    ) -> Result<Host<'a>, String> {
-        let backend = LiveBackend::new().map_err(|fault| fault.to_string())?;
-        Ok(Host {
+    ) -> Host<'a> {
+        Host {
             backend,
             profiles,
             links,
@@ -56,7 +57,7 @@ impl<'a> Host<'a> {
             past: [None; PORTS],
             broken: [false; PORTS],
             counts: Counts::default(),
-        })
+        }
     }
 
     /// Serves until every guest has finished.
@@ -108,17 +109,22 @@ impl<'a> Host<'a> {
     /// The disk is the host's to describe, the ring the guest's.
     fn open(&mut self, port: Port, abi: Abi, pages: Pages) -> Result<(), String> {
         let disk = self.profiles[port.index()].sheet;
-        let ring = self.links[port.index()].ring.shared(abi, pages);
         *self.backend.grants_mut(port) = grants();
         let sheet = Sheet { abi, pages, ..disk };
-        let opened = self.backend.open(port, &sheet.bytes(), ring);
-        opened.map_err(|fault| format!("open of {port}: {fault}"))
+        self.backend
+            .open(port, &sheet, self.links[port.index()].ring)?;
+        // The hostile guest's indices tell nothing of its waits.
+        if self.profiles[port.index()].role != Role::Hostile {
+            self.counts.waits.open(port);
+        }
+        Ok(())
     }
 
     fn drain_and_close(&mut self, port: Port) -> Result<(), String> {
         self.carry_out(port, self.held[port.index()].len())?;
         let closed = self.backend.close(port);
         closed.map_err(|refusal| format!("close of {port}: {refusal}"))?;
+        self.counts.waits.close(port);
         self.broken[port.index()] = false;
         // Serials begin anew: an old completion could name a new request.
         self.past[port.index()] = None;
@@ -129,12 +135,14 @@ impl<'a> Host<'a> {
     fn take_turns(&mut self) -> Result<bool, String> {
         for _ in 0..BURST {
             self.counts.turns += 1;
+            self.counts.waits.look(self.links);
             match self.backend.turn() {
                 Turn::Idle => {
                     self.counts.idle += 1;
                     return Ok(true);
                 }
                 Turn::Started(plan) => {
+                    self.served(plan.name.port)?;
                     let port = plan.name.port.index();
                     check_boundaries(&plan, self.profiles[port].unit())?;
                     self.counts.ports[port].own.count_taken();
@@ -146,6 +154,7 @@ impl<'a> Host<'a> {
                     status,
                     notify,
                 } => {
+                    self.served(port)?;
                     self.counts.ports[port.index()].count_refused(reason, status);
                     self.notify_if(notify, port);
                 }
@@ -158,6 +167,14 @@ impl<'a> Host<'a> {
             }
         }
         Ok(false)
+    }
+
+    /// Sees that a port did not wait too long for its turn.
+    fn served(&mut self, port: Port) -> Result<(), String> {
+        match self.counts.waits.serve(port) {
+            0..=MOST_TURNS => Ok(()),
+            turns => Err(format!("{port} waited for {turns} turns")),
+        }
     }
 
     /// Does some of the I/O held, from any port.
@@ -283,7 +300,7 @@ fn entries(ended: &[Ended]) -> Vec<Entry> {
 }
 
 /// What lies together both in the machine and on the disk, for one disk call each.
-fn join<'runs>(
+pub fn join<'runs>(
     plan: &Plan,
     frames: &Frames,
     runs: &'runs mut [Run],

@@ -1,12 +1,11 @@
 //! A guest that breaks the rules: rubbish in its slots, sectors of its disk in halves, requests
 //! rewritten while they are read, requests of another layout than it said, scribbled indices, req_prod
-//! moved back and at last far ahead. Then it connects again, with another ring.
+//! moved back and at last far ahead. Then it connects again, with another ring, as long as others live.
 
 use crate::batch::{BARRIER, DISCARD, READ, WRITE};
 use crate::frames::{FRAME_SECTORS, READ_ONLY_FRAMES, READ_WRITE_FRAMES};
+use crate::guest::End;
 use crate::link::{Link, State, BOUND};
-use crate::pattern::Model;
-use crate::report::Checks;
 use frontend::{EventChannel, Request};
 use generate::Random;
 use kernelharp::layout::{REQ_EVENT, REQ_PROD, RSP_EVENT, RSP_PROD};
@@ -14,7 +13,7 @@ use kernelharp::{Abi, Pages, Segment};
 use std::sync::atomic::Ordering;
 use std::time::Duration;
 
-/// How often it is closed for an overrun and opened anew.
+/// How often it is closed for an overrun at least.
 const LIVES: u64 = 6;
 /// How long it waits for responses before it goes on without them.
 const PATIENCE: u32 = 50;
@@ -23,6 +22,8 @@ const NAP: Duration = Duration::from_millis(1);
 /// The hostile guest.
 pub struct Hostile<'a> {
     link: &'a Link,
+    /// Those of all guests.
+    links: &'a [Link],
     to_host: &'a EventChannel,
     random: Random,
     /// The layout of its ring.
@@ -36,12 +37,14 @@ pub struct Hostile<'a> {
 impl<'a> Hostile<'a> {
     pub fn new(
         link: &'a Link,
+        links: &'a [Link],
         to_host: &'a EventChannel,
         (abi, pages): (Abi, Pages),
         random: Random,
     ) -> Hostile<'a> {
         Hostile {
             link,
+            links,
             to_host,
             random,
             abi,
@@ -50,27 +53,37 @@ impl<'a> Hostile<'a> {
         }
     }
 
-    /// Lives several times, each ended by an overrun. It checks nothing.
-    pub fn run(mut self, rounds: u64) -> Result<(Checks, Option<Model>), String> {
-        let mut ended = Ok(());
-        for life in 0..LIVES {
+    /// Lives several times, each ended by an overrun, until the others have finished too. It checks
+    /// nothing.
+    pub fn run(mut self, rounds: u64) -> Result<End, String> {
+        let (mut ended, mut life) = (Ok(()), 0);
+        while ended.is_ok() && (life < LIVES || self.others_live()) {
             if life > 0 {
                 self.connect_again();
             }
-            for round in rounds * life / LIVES..rounds * (life + 1) / LIVES {
-                self.link.rounds.store(round, Ordering::Relaxed);
-                if self.link.state() == State::Closed {
-                    break;
-                }
-                self.play();
-            }
+            self.live(life, rounds);
             ended = self.overrun();
-            if ended.is_err() {
-                break;
-            }
+            life += 1;
         }
         self.link.go(State::Finished, self.to_host);
-        ended.map(|()| (Checks::default(), None))
+        ended.map(|()| End::default())
+    }
+
+    /// One life of its rounds; one that comes after them is cut short when the others have finished.
+    fn live(&mut self, life: u64, rounds: u64) {
+        for round in rounds * life / LIVES..rounds * (life + 1) / LIVES {
+            self.link.rounds.store(round, Ordering::Relaxed);
+            let over = life >= LIVES && !self.others_live();
+            if over || self.link.state() == State::Closed {
+                break;
+            }
+            self.play();
+        }
+    }
+
+    fn others_live(&self) -> bool {
+        let unfinished = |link: &&Link| link.state() != State::Finished;
+        self.links.iter().filter(unfinished).count() > 1
     }
 
     fn connect_again(&mut self) {

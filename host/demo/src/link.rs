@@ -38,9 +38,9 @@ pub struct Link {
 }
 
 impl Link {
-    pub fn new(abi: Abi, pages: Pages, frames: Frames) -> Link {
+    pub fn new(ring: &'static GuestRing, abi: Abi, pages: Pages, frames: Frames) -> Link {
         Link {
-            ring: GuestRing::new(),
+            ring,
             frames,
             to_guest: EventChannel::new(),
             rounds: AtomicU64::new(0),

@@ -1,26 +1,41 @@
 //! The demo: a host with eight simulated guests, each on its own disk image, one of them hostile.
 //!
-//! `demo [SEED [ROUNDS]]`. Each guest is a thread that writes and reads back through its live ring
-//! and holds every response and every byte against its own model of the disk. The exit status is 0
-//! when all of it held, 1 when not, 2 for arguments that are no numbers.
+//! `demo [SEED [ROUNDS]]`. First the incident: what a guest does to a host that reads its page twice, and
+//! not to one that goes by the library. Then days of eight guests, over private copies and over live
+//! pages: each is a thread that writes and reads back through its live ring and holds every response and
+//! every byte against its own model of the disk. Last, how quickly the good guests are served with the
+//! hostile one and without. The exit status is 0 when all of it held, 1 when not, 2 for arguments that
+//! are no numbers.
 
 mod batch;
+mod compare;
+mod days;
 mod disk;
 mod frames;
 mod front;
 mod guest;
 mod host;
 mod hostile;
+mod incident;
+mod lent;
 mod link;
+mod old_worker;
+mod pace;
 mod pattern;
 mod profile;
+mod race;
 mod report;
 mod run;
+mod scene;
+mod serve;
 mod tally;
+mod volume;
+mod waits;
 mod wish;
 
 use std::path::PathBuf;
 use std::process::ExitCode;
+use std::time::Instant;
 use std::{env, fs, io};
 
 const SEED: u64 = 1;
@@ -32,16 +47,7 @@ fn main() -> ExitCode {
         eprintln!("demo [SEED [ROUNDS]], both numbers, ROUNDS at least 1");
         return ExitCode::from(2);
     };
-    println!(
-        "Eight guests on eight disk images, {rounds} rounds, seed {seed}. Two are game boards that"
-    );
-    println!("roll their day at different hours, beside saved scores that must stay untouched;");
-    println!("four guests put and collect by the library's guest's half; three, whose rings have");
-    println!("32-bit records, two pages or both, by a plain front end; one is hostile and comes");
-    println!("back each time with a ring of another layout or size. Every id is to be answered");
-    println!("once, every byte to be read back as it was written, and every meter to count what");
-    println!("its guest saw. What lies together in the machine's memory and on a disk is moved by");
-    println!("one disk call.");
+    println!("A host and its guests: seed {seed}, {rounds} rounds.");
     match demo(seed, rounds) {
         Ok(()) => ExitCode::SUCCESS,
         Err(fault) => {
@@ -62,7 +68,15 @@ fn arguments() -> Option<(u64, u64)> {
 
 fn demo(seed: u64, rounds: u64) -> Result<(), String> {
     let folder = Folder::new("images").map_err(|fault| format!("temporary folder: {fault}"))?;
-    run::demo(&folder.0, seed, rounds)
+    let begin = Instant::now();
+    incident::show(&folder.0, seed, rounds)?;
+    days::show(&folder.0, seed, rounds)?;
+    compare::show(&folder.0, seed, rounds)?;
+    println!(
+        "Every check held, in {:.1} s.",
+        begin.elapsed().as_secs_f64()
+    );
+    Ok(())
 }
 
 /// A new folder that goes away with its images.

@@ -53,6 +53,16 @@ impl Model {
         }
     }
 
+    /// All bytes of the disk.
+    pub fn bytes(&self) -> Vec<u8> {
+        let mut bytes = vec![0; self.versions.len() * SECTOR];
+        let sectors = (0..).zip(bytes.chunks_exact_mut(SECTOR));
+        for ((sector, bytes), &version) in sectors.zip(&self.versions) {
+            self.fill(sector, version, bytes);
+        }
+        bytes
+    }
+
     /// Whether a sector's bytes are those of a version.
     pub fn holds(&self, sector: u64, version: u32, bytes: &[u8]) -> bool {
         let mut due = [0; SECTOR];

@@ -4,6 +4,7 @@ use crate::link::Link;
 use crate::pattern::SECTOR;
 use crate::profile::Profile;
 use crate::tally::Tally;
+use crate::waits::Waits;
 use kernelharp::layout::PORTS;
 use kernelharp::{Meter, Plan, Reason, Sheet, Status};
 use std::io::{self, IsTerminal, Write};
@@ -38,7 +39,7 @@ impl Checks {
         self.secure_as_plain += u64::from(!sheet.secure_discard);
     }
 
-    fn add(&mut self, other: &Checks) {
+    pub fn add(&mut self, other: &Checks) {
         self.own.add(&other.own.0);
         self.bytes += other.bytes;
         self.days_rolled += other.days_rolled;
@@ -122,9 +123,22 @@ pub struct Counts {
     /// Billing periods that ended while the guests ran.
     pub periods: u64,
     pub ports: [PortCounts; PORTS],
+    pub waits: Waits,
 }
 
 impl Counts {
+    /// Adds what another run counted.
+    pub fn add(&mut self, other: &Counts) {
+        self.turns += other.turns;
+        self.idle += other.idle;
+        self.sleeps += other.sleeps;
+        self.periods += other.periods;
+        for (port, other) in self.ports.iter_mut().zip(&other.ports) {
+            port.add(other);
+        }
+        self.waits.add(&other.waits);
+    }
+
     pub fn total(&self) -> PortCounts {
         let mut total = PortCounts::default();
         self.ports.iter().for_each(|port| total.add(port));
@@ -132,12 +146,11 @@ impl Counts {
     }
 }
 
-/// A line that is rewritten on a terminal; elsewhere a line for each quarter of the way.
+/// A line that is rewritten on a terminal.
 pub struct Progress {
     rounds: u64,
     terminal: bool,
     shown: Instant,
-    quarters: u64,
 }
 
 impl Progress {
@@ -146,30 +159,20 @@ impl Progress {
             rounds,
             terminal: io::stdout().is_terminal(),
             shown: Instant::now(),
-            quarters: 0,
         }
     }
 
     /// Shows how far the slowest guest is.
     pub fn show(&mut self, links: &[Link], counts: &Counts) {
-        if self.shown.elapsed() < Duration::from_millis(100) {
+        if !self.terminal || self.shown.elapsed() < Duration::from_millis(100) {
             return;
         }
         self.shown = Instant::now();
         let rounds = links.iter().map(|link| link.rounds.load(Ordering::Relaxed));
-        let hundredths = 100 * rounds.min().unwrap_or(0) / self.rounds;
-        if !self.terminal && hundredths / 25 == self.quarters {
-            return;
-        }
-        self.quarters = hundredths / 25;
-        let (from, to) = if self.terminal {
-            ("\r", "")
-        } else {
-            ("", "\n")
-        };
         let total = counts.total();
         print!(
-            "{from}{hundredths:>3} %  {} responses, {:.0} MiB moved, {} overruns {to}",
+            "\r{:>3} %  {} responses, {:.0} MiB moved, {} overruns ",
+            100 * rounds.min().unwrap_or(0) / self.rounds,
             total.own.answers(),
             mebibytes(total.sectors),
             total.overruns
@@ -178,10 +181,10 @@ impl Progress {
         let _ = io::stdout().flush();
     }
 
-    /// Leaves the line for what follows.
+    /// Makes room for what follows.
     pub fn end(&self) {
         if self.terminal {
-            println!("\r100 %{:60}", "");
+            print!("\r{:70}\r", "");
         }
     }
 }
@@ -189,68 +192,92 @@ impl Progress {
 /// The table. What was taken and answered is what the meters said.
 pub fn print_table(profiles: &[Profile], counts: &Counts, checks: &[Checks]) {
     println!();
-    println!(
-        "{:<5}{:<21}{:>7}{:>8}{:>7}{:>9}{:>9}{:>8}{:>15}{:>11}{:>10}{:>13}{:>13}",
-        "port",
-        "guest",
-        "disk",
-        "layout",
-        "pages",
-        "taken",
-        "okay",
-        "error",
-        "not supported",
-        "MiB moved",
-        "overruns",
-        "ids checked",
-        "MiB checked"
-    );
+    let over = [
+        "", "", "", "ring", "", "", "", "", "unsup-", "MiB", "over-", "ids", "MiB",
+    ];
+    let head = [
+        "", "guest", "disk", "bits", "pages", "taken", "okay", "error", "ported", "moved", "runs",
+        "checked", "checked",
+    ];
+    for titles in [over, head] {
+        let [port, guest, disk, bits, pages, figures @ ..] = titles;
+        let front = row_front(port, guest, disk, bits, pages);
+        println!("{}", row(&front, figures.map(str::to_string)));
+    }
     let mut sum = Checks::default();
     for (port, (profile, checks)) in profiles.iter().zip(checks).enumerate() {
         let mode = if profile.sheet.writable { "w" } else { "r" };
         let disk = format!("{mode} {}", profile.sheet.sector_size);
-        let (name, layout, pages) = (profile.name, profile.layout(), profile.pages());
-        let head = format!("{port:<5}{name:<21}{disk:>7}{layout:>8}{pages:>7}");
-        print_row(&head, &counts.ports[port], checks);
+        let (port_name, layout, pages) = (port.to_string(), profile.layout(), profile.pages());
+        let front = row_front(&port_name, profile.name, &disk, &layout, &pages);
+        println!("{}", row(&front, figures(&counts.ports[port], checks)));
         sum.add(checks);
     }
-    print_row(&format!("{:<48}", "all"), &counts.total(), &sum);
+    let front = row_front("", "all", "", "", "");
+    println!("{}", row(&front, figures(&counts.total(), &sum)));
+    print_legend(&counts.total());
     print_sums(counts, &sum);
 }
 
-fn print_row(head: &str, counts: &PortCounts, checks: &Checks) {
+fn row_front(port: &str, guest: &str, disk: &str, bits: &str, pages: &str) -> String {
+    format!("{port:<2}{guest:<21}{disk:>6}{bits:>7}{pages:>6}")
+}
+
+fn row(front: &str, figures: [String; 8]) -> String {
+    let [taken, okay, error, not_supported, moved, overruns, ids, checked] = figures;
+    format!("{front}{taken:>7}{okay:>7}{error:>7}{not_supported:>7}{moved:>8}{overruns:>6}{ids:>8}{checked:>8}")
+}
+
+fn figures(counts: &PortCounts, checks: &Checks) -> [String; 8] {
     let Meter {
         taken,
         okay,
         error,
         not_supported,
     } = counts.metered.0;
-    println!(
-        "{head}{taken:>9}{okay:>9}{error:>8}{not_supported:>15}{:>11.1}{:>10}{:>13}{:>13.1}",
-        mebibytes(counts.sectors),
-        counts.overruns,
-        checks.own.answers(),
-        checks.bytes as f64 / MEBIBYTE
-    );
+    [
+        taken.to_string(),
+        okay.to_string(),
+        error.to_string(),
+        not_supported.to_string(),
+        format!("{:.1}", mebibytes(counts.sectors)),
+        counts.overruns.to_string(),
+        checks.own.answers().to_string(),
+        format!("{:.1}", checks.bytes as f64 / MEBIBYTE),
+    ]
+}
+
+/// What the columns mean, and why their figures are as high as they are.
+const LEGEND: &str = "\
+disk: writable or read-only, and its sector size. taken: requests taken off the ring; okay, error,
+unsupported: how they were answered. Sound guests are refused too: on purpose they also ask for
+what their disk cannot do, or in a wrong way, and see that they are told so and that nothing was
+moved. MiB moved: between frames and disk. More is checked: of a read, also of a refused one, each
+byte of its frames, those too that the host had to leave alone. ids checked: responses held
+against their requests, each once. The hostile guest checks nothing; overruns are of its req_prod,
+and its port was closed for each. Refused at once, by reason:";
+
+fn print_legend(total: &PortCounts) {
+    println!("{LEGEND}");
+    for (number, &count) in (FIRST_REASON as u32..).zip(&total.refused) {
+        if count > 0 {
+            println!("  {number} {count:>7}  {}", Reason::text(number));
+        }
+    }
 }
 
 fn print_sums(counts: &Counts, checks: &Checks) {
     let total = counts.total();
-    print!("refused by reason:");
-    for (number, count) in (FIRST_REASON as u32..).zip(total.refused) {
-        match Reason::from_number(number) {
-            Some(_) => print!("  {number}: {count}"),
-            None => print!("  {number}: {}", Reason::text(number)),
-        }
-    }
-    println!();
     println!(
         "secure discards: {} done as such, {} as plain ones on a disk without discard-secure",
         total.secure, checks.secure_as_plain
     );
     println!(
-        "turns: {} ({} idle, the host slept {} times)",
-        counts.turns, counts.idle, counts.sleeps
+        "turns: {} ({} idle, the host slept {} times); no sound guest waited for more than {} turns",
+        counts.turns,
+        counts.idle,
+        counts.sleeps,
+        counts.waits.longest.iter().max().unwrap_or(&0)
     );
     println!(
         "completions: {} done by {} calls, up to {} in one, {} doubled or late ones refused",

@@ -1,46 +1,79 @@
-//! One run: images, links, the host and its guests put together, and the verdict.
+//! One run: images, links, the host and its guests put together, and what must hold of them.
 
 use crate::disk::Disk;
 use crate::frames::{begin_of, Frames};
-use crate::guest::Guest;
+use crate::guest::{End, Guest};
 use crate::host::Host;
 use crate::hostile::Hostile;
-use crate::link::Link;
+use crate::lent::{Lent, Rings, Way};
+use crate::link::{Link, State, BOUND};
 use crate::pattern::Model;
 use crate::profile::{profiles, Profile, Role};
-use crate::report::{print_table, Checks, Counts, Progress};
+use crate::report::{Checks, Counts, Progress};
 use crate::tally::Tally;
 use frontend::EventChannel;
 use generate::Random;
 use kernelharp::layout::PORTS;
+use std::fs;
 use std::path::Path;
+use std::sync::atomic::Ordering;
 use std::thread;
-use std::time::Instant;
 
-/// What a guest ends with: its checks, and what its disk must hold unless it is hostile.
-type End = (Checks, Option<Model>);
+/// What a run is of.
+#[derive(Clone, Copy, Debug)]
+pub struct Course {
+    pub way: Way,
+    pub seed: u64,
+    pub rounds: u64,
+    /// Whether the hostile guest does anything.
+    pub hostile: bool,
+}
 
-/// Runs the demo on images in a folder and prints the table. An error is a check that did not hold.
-pub fn demo(folder: &Path, seed: u64, rounds: u64) -> Result<(), String> {
-    let begin = Instant::now();
+impl Course {
+    /// A random source for each part of the run.
+    fn random(&self, part: usize) -> Random {
+        let run = self.seed.wrapping_mul(2).wrapping_add(self.way as u64);
+        Random::new(run.wrapping_mul(16).wrapping_add(part as u64))
+    }
+}
+
+/// What a run ends with.
+#[derive(Debug, Default)]
+pub struct Outcome {
+    pub counts: Counts,
+    pub ends: Vec<End>,
+    /// Disk calls that moved bytes, and how many one to each extent would have been.
+    pub calls: u64,
+    pub extents: u64,
+    /// Bytes of the images that were held against the guests' models.
+    pub bytes: u64,
+}
+
+impl Outcome {
+    /// What the guests checked, by port.
+    pub fn checks(&self) -> impl Iterator<Item = &Checks> {
+        self.ends.iter().map(|end| &end.checks)
+    }
+}
+
+/// Runs it on images in a new folder. An error is a check that did not hold.
+pub fn run(folder: &Path, course: Course) -> Result<Outcome, String> {
     let profiles = profiles();
-    let models = models(seed, &profiles);
+    let models = models(course.seed, &profiles);
+    fs::create_dir(folder).map_err(|fault| format!("{}: {fault}", folder.display()))?;
     let mut disks = disks(folder, &profiles, &models)?;
-    let (counts, ends) = play(&profiles, &mut disks, models, seed, rounds)?;
-    let checks: Vec<Checks> = ends.iter().map(|end| end.0).collect();
-    print_table(&profiles, &counts, &checks);
-    print_disk_calls(&disks);
+    let (counts, ends) = play(&profiles, &mut disks, models, course)?;
     check_secure(&counts, &ends)?;
     check_meters(&counts, &ends)?;
-    println!(
-        "meters: as the host and the guests counted, half of them zeroed at each of {} period ends",
-        counts.periods
-    );
     let bytes = verify(&disks, &ends)?;
-    println!("images: {bytes} bytes as the guests left them, none behind a disk's end touched");
-    let seconds = begin.elapsed().as_secs_f64();
-    println!("Every check held, in {seconds:.1} s.");
-    Ok(())
+    fs::remove_dir_all(folder).map_err(|fault| format!("{}: {fault}", folder.display()))?;
+    Ok(Outcome {
+        bytes,
+        calls: disks.iter().map(|disk| disk.calls).sum(),
+        extents: disks.iter().map(|disk| disk.extents).sum(),
+        counts,
+        ends,
+    })
 }
 
 /// Lets the guests live, each in a thread, and serves them in this one.
@@ -48,23 +81,28 @@ fn play(
     profiles: &[Profile],
     disks: &mut [Disk],
     models: Vec<Model>,
-    seed: u64,
-    rounds: u64,
+    course: Course,
 ) -> Result<(Counts, Vec<End>), String> {
-    let (bell, mut progress) = (EventChannel::new(), Progress::new(rounds));
-    let random = |part: usize| Random::new(seed.wrapping_mul(16).wrapping_add(part as u64));
-    let links = links(profiles, random(PORTS + 1));
-    let mut host = Host::new(profiles, &links, &bell, disks, random(PORTS))?;
+    let (bell, mut progress) = (EventChannel::new(), Progress::new(course.rounds));
+    let (backend, rings) = Lent::new(course.way).map_err(|fault| fault.to_string())?;
+    let links = links(profiles, rings, course.random(PORTS + 1));
+    let random = course.random(PORTS);
+    let mut host = Host::new(profiles, &links, &bell, disks, backend, random);
     // A ring is set up before its port is opened.
     let mut players = Vec::new();
     for (port, model) in models.into_iter().enumerate() {
-        let (profile, link) = (&profiles[port], &links[port]);
-        players.push(Player::new(profile, link, &bell, model, random(port))?);
+        players.push(Player::new(
+            &profiles[port],
+            (&links, port),
+            &bell,
+            model,
+            course,
+        )?);
     }
     let (served, ends) = thread::scope(|scope| {
         let guests: Vec<_> = players
             .into_iter()
-            .map(|player| scope.spawn(move || player.run(rounds)))
+            .map(|player| scope.spawn(move || player.run(course.rounds)))
             .collect();
         let served = host.run(&mut progress);
         let joined = guests.into_iter().map(|guest| guest.join());
@@ -81,32 +119,36 @@ fn play(
 }
 
 /// The guests' connections, their frames spread over the machine's memory.
-fn links(profiles: &[Profile], mut random: Random) -> [Link; PORTS] {
+fn links(profiles: &[Profile], rings: Rings, mut random: Random) -> [Link; PORTS] {
     std::array::from_fn(|port| {
         let sheet = profiles[port].sheet;
         let frames = Frames::new(begin_of(port), &mut random);
-        Link::new(sheet.abi, sheet.pages, frames)
+        Link::new(rings[port], sheet.abi, sheet.pages, frames)
     })
 }
 
-/// A guest of either kind.
+/// A guest of any kind.
 enum Player<'a> {
     Sound(Guest<'a>),
     Hostile(Hostile<'a>),
+    /// Connects, and asks for nothing.
+    Silent(&'a Link, &'a EventChannel),
 }
 
 impl<'a> Player<'a> {
     fn new(
         profile: &'a Profile,
-        link: &'a Link,
+        (links, port): (&'a [Link], usize),
         bell: &'a EventChannel,
         model: Model,
-        random: Random,
+        course: Course,
     ) -> Result<Player<'a>, String> {
+        let (link, random) = (&links[port], course.random(port));
         Ok(match profile.role {
+            Role::Hostile if !course.hostile => Player::Silent(link, bell),
             Role::Hostile => {
                 let ring = (profile.sheet.abi, profile.sheet.pages);
-                Player::Hostile(Hostile::new(link, bell, ring, random))
+                Player::Hostile(Hostile::new(link, links, bell, ring, random))
             }
             _ => Player::Sound(Guest::new(profile, link, bell, model, random)?),
         })
@@ -116,6 +158,13 @@ impl<'a> Player<'a> {
         match self {
             Player::Sound(guest) => guest.run(rounds),
             Player::Hostile(hostile) => hostile.run(rounds),
+            Player::Silent(link, bell) => {
+                let opened = link.state() == State::Connected || link.to_guest.wait(BOUND);
+                link.rounds.store(rounds, Ordering::Relaxed);
+                link.go(State::Closing, bell);
+                let opened = opened.then(End::default);
+                opened.ok_or_else(|| "silent: its port was not opened".to_string())
+            }
         }
     }
 }
@@ -140,18 +189,11 @@ fn disks(folder: &Path, profiles: &[Profile], models: &[Model]) -> Result<Vec<Di
     Ok(disks)
 }
 
-/// How many disk calls moved the bytes, beside one to each extent.
-fn print_disk_calls(disks: &[Disk]) {
-    let calls: u64 = disks.iter().map(|disk| disk.calls).sum();
-    let extents: u64 = disks.iter().map(|disk| disk.extents).sum();
-    println!("disk calls to move data: {extents} if each extent had its own, {calls} with extents joined to runs");
-}
-
 /// Holds the plans with the secure mark against the secure discards that the guests are due.
 fn check_secure(counts: &Counts, ends: &[End]) -> Result<(), String> {
-    for (port, (counts, (checks, model))) in counts.ports.iter().zip(ends).enumerate() {
-        let (done, due) = (counts.secure, checks.secure);
-        if model.is_some() && done != due {
+    for (port, (counts, end)) in counts.ports.iter().zip(ends).enumerate() {
+        let (done, due) = (counts.secure, end.checks.secure);
+        if end.model.is_some() && done != due {
             return Err(format!("port {port}: {done} secure discards, {due} due"));
         }
     }
@@ -160,10 +202,10 @@ fn check_secure(counts: &Counts, ends: &[End]) -> Result<(), String> {
 
 /// Holds what the meters said against the host's own count, and the guest's where it has one.
 fn check_meters(counts: &Counts, ends: &[End]) -> Result<(), String> {
-    for (port, (counts, (checks, model))) in counts.ports.iter().zip(ends).enumerate() {
+    for (port, (counts, end)) in counts.ports.iter().zip(ends).enumerate() {
         check_meter(port, counts.metered, "host", counts.own)?;
-        if model.is_some() {
-            check_meter(port, counts.metered, "guest", checks.own)?;
+        if end.model.is_some() {
+            check_meter(port, counts.metered, "guest", end.checks.own)?;
         }
     }
     Ok(())
@@ -179,8 +221,8 @@ fn check_meter(port: usize, metered: Tally, whose: &str, own: Tally) -> Result<(
 /// Holds every image against its guest's model. Gives how many bytes were checked.
 fn verify(disks: &[Disk], ends: &[End]) -> Result<u64, String> {
     let mut bytes = 0;
-    for (port, (disk, (_, model))) in disks.iter().zip(ends).enumerate() {
-        let checked = disk.verify(model.as_ref());
+    for (port, (disk, end)) in disks.iter().zip(ends).enumerate() {
+        let checked = disk.verify(end.model.as_ref());
         bytes += checked.map_err(|fault| format!("disk {port}: {fault}"))?;
     }
     Ok(bytes)
@@ -191,13 +233,30 @@ mod tests {
     use super::*;
     use crate::Folder;
 
+    const COURSE: Course = Course {
+        way: Way::Pages,
+        seed: 1,
+        rounds: 3,
+        hostile: true,
+    };
+
+    /// Guests that have checked nothing.
+    fn ends() -> Vec<End> {
+        let models = models(1, &profiles()).into_iter();
+        let ends = models.map(|model| End {
+            model: Some(model),
+            ..End::default()
+        });
+        ends.collect()
+    }
+
     /// The images hold another pattern than the guests know of.
     #[test]
     fn a_guest_finds_bytes_that_it_did_not_write() {
         let (folder, profiles) = (Folder::new("bytes").unwrap(), profiles());
         let others = models(2, &profiles);
         let mut disks = disks(&folder.0, &profiles, &others).unwrap();
-        let played = play(&profiles, &mut disks, models(1, &profiles), 1, 3);
+        let played = play(&profiles, &mut disks, models(1, &profiles), COURSE);
         let fault = played.expect_err("the images are others");
         assert!(fault.starts_with("read-only: sector"), "{fault}");
     }
@@ -211,9 +270,7 @@ mod tests {
             |tally| &mut tally.0.not_supported,
         ];
         for number in numbers {
-            let models = models(1, &profiles()).into_iter();
-            let mut ends: Vec<End> = models.map(|it| (Checks::default(), Some(it))).collect();
-            let mut counts = Counts::default();
+            let (mut ends, mut counts) = (ends(), Counts::default());
             check_meters(&counts, &ends).unwrap();
             *number(&mut counts.ports[5].metered) += 1;
             let fault = check_meters(&counts, &ends).unwrap_err();
@@ -221,26 +278,24 @@ mod tests {
             *number(&mut counts.ports[5].own) += 1;
             let fault = check_meters(&counts, &ends).unwrap_err();
             assert!(fault.starts_with("meter 5: ") && fault.contains("; by its guest: "));
-            *number(&mut ends[5].0.own) += 1;
+            *number(&mut ends[5].checks.own) += 1;
             check_meters(&counts, &ends).unwrap();
             // A hostile guest counts nothing.
-            ends[5] = (Checks::default(), None);
+            ends[5] = End::default();
             check_meters(&counts, &ends).unwrap();
         }
     }
 
     #[test]
     fn a_secure_discard_is_found_that_is_not_due() {
-        let models = models(1, &profiles()).into_iter();
-        let mut ends: Vec<End> = models.map(|it| (Checks::default(), Some(it))).collect();
-        let mut counts = Counts::default();
+        let (mut ends, mut counts) = (ends(), Counts::default());
         check_secure(&counts, &ends).unwrap();
         counts.ports[3].secure = 1;
-        ends[3].0.secure_as_plain = 1;
+        ends[3].checks.secure_as_plain = 1;
         let fault = check_secure(&counts, &ends).unwrap_err();
         assert_eq!(fault, "port 3: 1 secure discards, 0 due");
         // A hostile guest counts nothing.
-        ends[3].1 = None;
+        ends[3].model = None;
         check_secure(&counts, &ends).unwrap();
     }
 
@@ -251,7 +306,7 @@ mod tests {
         real[0].bad = 0..1;
         let models = models(1, &known);
         let mut disks = disks(&folder.0, &real, &models).unwrap();
-        let played = play(&known, &mut disks, models, 1, 3);
+        let played = play(&known, &mut disks, models, COURSE);
         let fault = played.expect_err("a sector is bad");
         assert!(fault.starts_with("board, first zone: Response"), "{fault}");
     }

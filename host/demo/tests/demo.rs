@@ -51,7 +51,7 @@ fn figures(text: &str, begin: &str) -> Vec<f64> {
 
 /// The layout and the pages of a guest's ring, the columns before its figures.
 fn ring(text: &str, port: usize) -> [&str; 2] {
-    let mut words = line(text, &format!("{port}    ")).split_whitespace().rev();
+    let mut words = line(text, &format!("{port} ")).split_whitespace().rev();
     let pages = words.nth(FIGURES).unwrap();
     [words.next().unwrap(), pages]
 }
@@ -59,8 +59,10 @@ fn ring(text: &str, port: usize) -> [&str; 2] {
 #[test]
 fn the_demo_runs_small() {
     let text = table("small", &["5", "30"]);
+    let long = text.lines().find(|line| line.len() > 100);
+    assert_eq!(long, None, "a line that many a terminal has no room for");
     for port in 0..7 {
-        let row = figures(&text, &format!("{port}    "));
+        let row = figures(&text, &format!("{port} "));
         let [taken, okay, error, not_supported, moved, overruns, ids, checked] = row[..] else {
             panic!("{row:?}");
         };
@@ -70,10 +72,10 @@ fn the_demo_runs_small() {
         assert_eq!((okay + error + not_supported, ids), (taken, taken));
         assert_eq!(overruns, 0.0);
     }
-    let hostile = figures(&text, "7    ");
+    let hostile = figures(&text, "7 ");
     assert!(hostile[0] > 0.0, "requests of the hostile guest");
     assert_eq!(hostile[1] + hostile[2] + hostile[3], hostile[0]);
-    assert_eq!(hostile[5], 6.0, "overruns of the hostile guest");
+    assert!(hostile[5] >= 12.0, "overruns of the hostile guest");
     let rings: [[&str; 2]; 8] = std::array::from_fn(|port| ring(&text, port));
     let layouts = "64-bit 32-bit 64-bit 32-bit 64-bit 64-bit 64-bit both";
     assert_eq!(rings.map(|[layout, _]| layout).join(" "), layouts);
@@ -81,15 +83,14 @@ fn the_demo_runs_small() {
         rings.map(|[_, pages]| pages).join(" "),
         "1 2 2 1 1 1 1 both"
     );
-    let reasons = line(&text, "refused by reason:").replace(':', " ");
-    let reasons: Vec<&str> = reasons.split_whitespace().skip(3).collect();
-    for (number, pair) in (21..=29).zip(reasons.chunks(2)) {
-        assert_eq!(pair[0], number.to_string());
-        assert_ne!(pair[1], "0", "reason {number} did not occur");
-        assert_eq!(pair[1] == "withdrawn", number == 23);
+    for number in [21, 22, 24, 25, 26, 27, 28, 29] {
+        let reason = line(&text, &format!("  {number} "));
+        assert!(reason.ends_with(kernelharp::Reason::text(number)));
     }
-    assert_eq!(reasons.len(), 18);
+    check_incident(&text);
+    check_ways(&text);
     check_calls(&text);
+    check_bars(&text);
     let secure = line(&text, "secure discards: ");
     assert!(!secure.contains(" 0 "), "{secure}");
     line(&text, "days rolled by the boards: 2,");
@@ -99,6 +100,37 @@ fn the_demo_runs_small() {
     assert!(!zeroed.contains(" 0 period ends"), "{zeroed}");
     line(&text, "images: ");
     line(&text, "Every check held, in ");
+}
+
+/// The old worker's faults, and none of the library's hosts in both ways.
+fn check_incident(text: &str) {
+    for (who, [wrote, answered]) in [
+        (
+            "old worker",
+            ["checked 704, wrote at 2816: ", "answered 7 and 7; 8 never"],
+        ),
+        (
+            "private copies",
+            ["checked 704, wrote at 704; ", "answered 7 and 8, each once"],
+        ),
+        (
+            "live pages",
+            ["checked 704, wrote at 704; ", "answered 7 and 8, each once"],
+        ),
+    ] {
+        line(text, &format!("   {who:<15} {wrote}"));
+        line(text, &format!("   {who:<15} {answered}"));
+    }
+    let race = " writes whose starts change to and fro, ";
+    assert!(text.lines().any(|line| line.contains(race)));
+}
+
+/// Half of the rounds over private copies, half over live pages.
+fn check_ways(text: &str) {
+    for way in ["private copies  ", "live pages      "] {
+        let half = line(text, way);
+        assert!(half.contains(" 15 rounds, "), "{half}");
+    }
 }
 
 /// Several completions to a call, at least as many to a notice as to a call, and several extents to a disk
@@ -112,12 +144,33 @@ fn check_calls(text: &str) {
     assert!(runs > 0.0 && runs < extents);
 }
 
+/// Two bars for each good guest: some requests a second, times that are in order, and no more turns than
+/// the rule has.
+fn check_bars(text: &str) {
+    let bars: Vec<&str> = text.lines().filter(|line| line.contains(" #")).collect();
+    let of = |word| {
+        bars.iter()
+            .filter(|bar| bar[21..].starts_with(word))
+            .count()
+    };
+    assert_eq!((of("silent "), of("there "), bars.len()), (7, 7, 14));
+    for bar in bars {
+        let figures = bar[29..].split_whitespace();
+        let figures: Vec<u64> = figures.filter_map(|word| word.parse().ok()).collect();
+        let [rate, median, most, turns] = figures[..] else {
+            panic!("{bar}");
+        };
+        assert!(rate > 0 && median <= most, "{bar}");
+        assert!((1..=8).contains(&turns), "{bar}");
+    }
+}
+
 /// What the host and the hostile guest do hangs on the moment, what the others do on the seed.
 #[test]
 fn a_seed_gives_the_same_requests_again() {
     let rows = |name, seed| {
         let text = table(name, &[seed, "12"]);
-        let rows = (0..7).map(|port| line(&text, &format!("{port}    ")).to_string());
+        let rows = (0..7).map(|port| line(&text, &format!("{port} ")).to_string());
         rows.collect::<Vec<String>>()
     };
     let first = rows("first", "9");

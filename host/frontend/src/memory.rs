@@ -3,37 +3,56 @@
 use kernelharp::layout::{
     Abi, Pages, PAGE_BYTES, REQ_EVENT, REQ_PROD, RING_BYTES, RSP_EVENT, RSP_PROD,
 };
-use kernelharp::live::{Mapping, SharedRing, PAGE_WORDS};
+use kernelharp::live::{Mapping, SharedRing, PAGE_WORDS, ROW_WORDS};
 use std::sync::atomic::{AtomicU32, Ordering};
 
 /// The bytes of a word.
 const WORD: usize = PAGE_BYTES / PAGE_WORDS;
 
-/// Three pages, of which the ring has two.
-const PAGES: usize = 3;
-
 /// A page, read and written by words.
+type Page = [AtomicU32; PAGE_WORDS];
+
+/// Memory that begins with a page, and lives as long as the program.
 #[repr(C, align(4096))]
-#[derive(Debug)]
-struct Page([AtomicU32; PAGE_WORDS]);
+struct Aligned<const WORDS: usize>([AtomicU32; WORDS]);
+
+fn zeros<const WORDS: usize>() -> &'static [AtomicU32; WORDS] {
+    let words = [const { AtomicU32::new(0) }; WORDS];
+    &Box::leak(Box::new(Aligned(words))).0
+}
+
+/// Memory for the rings of all ports side by side, for a host that lends live pages.
+pub fn row() -> &'static [AtomicU32; ROW_WORDS] {
+    zeros()
+}
 
 /// A guest's memory for a ring: two pages, of which a ring of one page has the first. It lives as long as
 /// the program: a guest's memory does not go away because a backend lets go of it.
-///
-/// A guest grants its pages one by one, and a host may map them anywhere. So the second one stands before
-/// the first here, and another between the two.
 #[derive(Debug)]
 pub struct GuestRing {
-    pages: [Page; PAGES],
+    pages: [&'static Page; 2],
 }
 
 impl GuestRing {
     /// A ring as a frontend hands it over: indices 0, and both sides ask for the first event
     /// (SHARED_RING_INIT).
+    ///
+    /// A guest grants its pages one by one, and a host may map them anywhere. So the second one stands
+    /// before the first here, and another between the two.
     pub fn new() -> &'static GuestRing {
-        let zeros = || Page([const { AtomicU32::new(0) }; PAGE_WORDS]);
-        let pages = [(); PAGES].map(|()| zeros());
-        let ring: &'static GuestRing = Box::leak(Box::new(GuestRing { pages }));
+        let words = zeros::<{ 3 * PAGE_WORDS }>();
+        GuestRing::of(page(words, 2), page(words, 0))
+    }
+
+    /// Such a ring where a host that lends live pages has a port's mapped.
+    pub fn in_row(row: &'static [AtomicU32; ROW_WORDS], port: usize) -> &'static GuestRing {
+        GuestRing::of(page(row, 2 * port), page(row, 2 * port + 1))
+    }
+
+    fn of(first: &'static Page, second: &'static Page) -> &'static GuestRing {
+        let ring: &'static GuestRing = Box::leak(Box::new(GuestRing {
+            pages: [first, second],
+        }));
         ring.init();
         ring
     }
@@ -59,18 +78,13 @@ impl GuestRing {
         }
     }
 
-    fn map(&'static self, number: usize) -> Mapping {
-        Mapping::of_atomics(&self.page(number).0)
-    }
-
-    /// A page by its number in the ring.
-    fn page(&self, number: usize) -> &Page {
-        &self.pages[PAGES - 1 - 2 * number]
+    fn map(&self, number: usize) -> Mapping {
+        Mapping::of_atomics(self.pages[number])
     }
 
     fn word(&self, at: usize) -> &AtomicU32 {
         assert!(at < RING_BYTES, "a word of the ring at {at}");
-        &self.page(at / PAGE_BYTES).0[at % PAGE_BYTES / WORD]
+        &self.pages[at / PAGE_BYTES][at % PAGE_BYTES / WORD]
     }
 
     /// The word at a multiple of four.
@@ -99,4 +113,10 @@ impl GuestRing {
             self.store(at, u32::from_le_bytes(word));
         }
     }
+}
+
+/// A page of several that lie side by side.
+fn page(words: &'static [AtomicU32], number: usize) -> &'static Page {
+    let words = &words[PAGE_WORDS * number..][..PAGE_WORDS];
+    words.try_into().expect("the words of a page")
 }

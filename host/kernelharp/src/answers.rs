@@ -5,11 +5,12 @@ use crate::names::{Name, Port, Serial, Tag};
 use crate::terms::{Operation, Reason, Status};
 use crate::words::{done, extent, kind, many, turn, DoneWords, ManyWords, TurnWords};
 use std::fmt;
+use std::slice;
 
 /// One stretch of a plan: sectors of 512 bytes that lie together in a guest frame and on the disk.
 #[derive(Clone, Copy, Debug, Default, PartialEq, Eq)]
 pub struct Extent {
-    /// The guest frame.
+    /// The guest frame: the reference by which the guest granted it.
     pub frame: u32,
     /// The first sector within the frame, 0 to 7.
     pub first_sector: u8,
@@ -20,6 +21,7 @@ pub struct Extent {
 }
 
 impl Extent {
+    #[inline]
     fn from_words(words: &[u64]) -> Option<Extent> {
         Some(Extent {
             frame: words[extent::FRAME].try_into().ok()?,
@@ -65,6 +67,14 @@ impl Plan {
         }
     }
 
+    /// Puts another frame in the place of each extent's.
+    pub(crate) fn map_frames(&mut self, other: impl Fn(u32) -> u32) {
+        for extent in &mut self.extents[..self.used] {
+            extent.frame = other(extent.frame);
+        }
+    }
+
+    #[inline]
     fn from_words(words: &TurnWords) -> Option<Plan> {
         let used = usize::try_from(words[turn::EXTENT_COUNT]).ok()?;
         let mut extents = [Extent::default(); EXTENTS];
@@ -127,6 +137,7 @@ pub enum Turn {
 
 impl Turn {
     /// Reads `kh_turn`'s answer; nothing comes back for words that no turn answers with.
+    #[inline]
     pub fn from_words(words: &TurnWords) -> Option<Turn> {
         Some(match words[turn::KIND] {
             kind::IDLE => Turn::Idle,
@@ -221,6 +232,46 @@ impl DoneMany {
             statuses,
             count,
         })
+    }
+}
+
+/// What a completion or a list of them says of its responses.
+pub(crate) trait Responses {
+    /// Their statuses, in order.
+    fn statuses(&self) -> &[Status];
+
+    /// Whether the guest is to be notified.
+    fn notify(&self) -> bool;
+
+    /// Says otherwise.
+    fn set_notify(&mut self, notify: bool);
+}
+
+impl Responses for Done {
+    fn statuses(&self) -> &[Status] {
+        slice::from_ref(&self.status)
+    }
+
+    fn notify(&self) -> bool {
+        self.notify
+    }
+
+    fn set_notify(&mut self, notify: bool) {
+        self.notify = notify;
+    }
+}
+
+impl Responses for DoneMany {
+    fn statuses(&self) -> &[Status] {
+        DoneMany::statuses(self)
+    }
+
+    fn notify(&self) -> bool {
+        self.notify
+    }
+
+    fn set_notify(&mut self, notify: bool) {
+        self.notify = notify;
     }
 }
 

@@ -1,19 +1,17 @@
 //! The wrapper that most hosts want: a backend with its private buffers, and typed answers.
 
 use crate::answers::{Done, DoneMany, Turn};
-use crate::ffi::{ArchiveMismatch, Completion, Entry, Memory, Meter};
-use crate::layout::{
-    ring, ring_mut, GRANTS_BYTES, PAGE_BYTES, PORTS, PORT_GRANTS, RINGS_BYTES, RING_BYTES,
-};
+use crate::ffi::{ArchiveMismatch, Entry, Meter};
+use crate::layout::{ring, ring_mut, PAGE_BYTES, PORT_GRANTS, RINGS_BYTES, RING_BYTES};
+use crate::lender::{zeros, Lender};
 use crate::names::{Name, Port};
 use crate::terms::Refusal;
-use crate::words::{turn, DONE_WORDS, MANY_WORDS, TURN_WORDS};
-use std::mem;
 
 /// A backend that owns what its calls are lent: memory, rings, grants and the ports' meters.
 ///
 /// Its rings are private. Where a guest writes its own ring at the same time,
-/// [`crate::live::LiveBackend`] copies between the two.
+/// [`crate::live::LiveBackend`] copies between the two, and [`crate::live::DirectBackend`] is lent the
+/// guest's.
 ///
 /// Each turn and each completion is handed to the meter of its port before it is answered, once, so
 /// a meter counts what its port did since the backend was new or the meter was last taken.
@@ -35,34 +33,26 @@ use std::mem;
 /// ```
 #[derive(Clone, Debug, PartialEq, Eq)]
 pub struct Backend {
-    memory: Memory,
-    rings: Box<[u8; RINGS_BYTES]>,
-    grants: Box<[u8; GRANTS_BYTES]>,
-    meters: [Meter; PORTS],
+    lender: Lender<Box<[u8; RINGS_BYTES]>>,
 }
 
 impl Backend {
     /// Eight closed ports; rings, grants and meters of zeros.
     pub fn new() -> Result<Backend, ArchiveMismatch> {
-        Ok(Backend {
-            memory: Memory::new()?,
-            rings: zeros(),
-            grants: zeros(),
-            meters: [Meter::default(); PORTS],
-        })
+        let lender = Lender::new(zeros())?;
+        Ok(Backend { lender })
     }
 
     /// A port's share of the rings, [`RING_BYTES`] long. The port's ring is at the begin of it, as long as
     /// its pages are ([`crate::Pages::bytes`]); no call reads or writes what is behind.
     pub fn ring(&self, port: Port) -> &[u8; RING_BYTES] {
-        let ring = ring(&self.rings[..], port.index());
+        let ring = ring(&self.lender.rings[..], port.index());
         ring.try_into().expect("a part of that length")
     }
 
     /// The same, to be written.
     pub fn ring_mut(&mut self, port: Port) -> &mut [u8; RING_BYTES] {
-        let ring = ring_mut(&mut self.rings[..], port.index());
-        ring.try_into().expect("a part of that length")
+        self.ring_and_grants_mut(port).0
     }
 
     /// The first page of a port's ring, to be written: the whole of a ring of one page, such as a
@@ -75,14 +65,34 @@ impl Backend {
     /// A port's grants, one byte to a frame: 1 the host may read the frame, 2 read and write,
     /// anything else neither.
     pub fn grants_mut(&mut self, port: Port) -> &mut [u8; PORT_GRANTS] {
-        let grants = &mut self.grants[PORT_GRANTS * port.index()..][..PORT_GRANTS];
-        grants.try_into().expect("a part of that length")
+        self.lender.grants_mut(port)
+    }
+
+    /// The same, to be read.
+    pub(crate) fn grants(&self, port: Port) -> &[u8; PORT_GRANTS] {
+        self.lender.grants(port)
+    }
+
+    /// A port's share of the rings and its grants, to be written together.
+    pub(crate) fn ring_and_grants_mut(
+        &mut self,
+        port: Port,
+    ) -> (&mut [u8; RING_BYTES], &mut [u8; PORT_GRANTS]) {
+        let (rings, grants) = self.lender.rings_and_grants_mut(port);
+        let ring = ring_mut(&mut rings[..], port.index());
+        (ring.try_into().expect("a part of that length"), grants)
+    }
+
+    /// Eight closed ports and rings of zeros, as in a new one. Grants and meters stay.
+    pub(crate) fn begin_anew(&mut self) {
+        self.lender.empty_memory();
+        self.lender.rings.fill(0);
     }
 
     /// A port's meter as it is now; it goes on counting. To be read whenever one likes: between two
     /// calls every answer is in it.
     pub fn meter(&self, port: Port) -> Meter {
-        self.meters[port.index()]
+        self.lender.meter(port)
     }
 
     /// Reads a port's meter and zeroes it in one step, at the end of a billing period, say. What a
@@ -109,42 +119,29 @@ impl Backend {
     /// ```
     #[must_use = "what the meter counted is nowhere else"]
     pub fn take_meter(&mut self, port: Port) -> Meter {
-        mem::take(&mut self.meters[port.index()])
+        self.lender.take_meter(port)
     }
 
     /// Opens a closed port from a node sheet.
     pub fn open(&mut self, port: Port, sheet: &[u8]) -> Result<(), Refusal> {
-        outcome(self.memory.open(port.number(), sheet))
+        self.lender.open(port, sheet)
     }
 
     /// Closes a port with nothing in flight.
     pub fn close(&mut self, port: Port) -> Result<(), Refusal> {
-        outcome(self.memory.close(port.number()))
+        self.lender.close(port)
     }
 
     /// Serves the next port that has something to serve. It is never refused: the one refusal of a
     /// turn is about the lengths of buffers, and those are right here.
     pub fn turn(&mut self) -> Turn {
-        let mut words = [0; TURN_WORDS];
-        let code = self
-            .memory
-            .turn(&mut self.rings[..], &self.grants[..], &mut words);
-        // First of all, so that no answer goes uncounted. Idle names port 0 and raises nothing.
-        self.meters[words[turn::PORT] as usize].turn(code, &words);
-        assert_eq!(code, 0, "a turn over buffers of the due lengths");
-        Turn::from_words(&words).expect("an answer as the C interface has it")
+        self.lender.turn()
     }
 
     /// Answers a started request with the host's result: [`crate::Plan::expected_result`] when all
     /// went well, -95 for not supported, anything else for an error.
     pub fn complete(&mut self, name: Name, result: i32) -> Result<Done, Refusal> {
-        let mut words = [0; DONE_WORDS];
-        let named = Completion::of(name, result);
-        let code = self.memory.complete(&mut self.rings[..], named, &mut words);
-        // A refusal raises nothing.
-        self.meters[name.port.index()].completion(code, &words);
-        outcome(code)?;
-        Ok(Done::from_words(&words).expect("an answer as the C interface has it"))
+        self.lender.complete(name, result)
     }
 
     /// Answers many started requests of a port at once, as disk interrupts bring them: the responses
@@ -172,30 +169,8 @@ impl Backend {
     /// # Ok::<(), Box<dyn std::error::Error>>(())
     /// ```
     pub fn complete_many(&mut self, port: Port, entries: &[Entry]) -> Result<DoneMany, Refusal> {
-        let (mut words, rings) = ([0; MANY_WORDS], &mut self.rings[..]);
-        let (number, entries) = (port.number(), Entry::words(entries));
-        let code = self
-            .memory
-            .complete_many(rings, number, entries, &mut words);
-        // A refusal raises nothing.
-        self.meters[port.index()].many(code, &words);
-        outcome(code)?;
-        Ok(DoneMany::from_words(&words).expect("an answer as the C interface has it"))
+        self.lender.complete_many(port, entries)
     }
-}
-
-/// What a call returned, as a refusal or none.
-pub(crate) fn outcome(code: u32) -> Result<(), Refusal> {
-    match code {
-        0 => Ok(()),
-        number => Err(Refusal::from_number(number).expect("a refusal's number")),
-    }
-}
-
-/// Zeros on the heap, never on the stack.
-pub(crate) fn zeros<const BYTES: usize>() -> Box<[u8; BYTES]> {
-    let zeros = vec![0; BYTES].into_boxed_slice();
-    zeros.try_into().expect("a slice of that length")
 }
 
 #[cfg(test)]
@@ -254,6 +229,10 @@ mod tests {
         backend.complete(plan.name, result).map(drop).unwrap();
     }
 
+    fn meters(backend: &Backend) -> Vec<Meter> {
+        Port::all().map(|port| backend.meter(port)).collect()
+    }
+
     #[track_caller]
     fn answered(backend: &mut Backend) -> Status {
         match backend.turn() {
@@ -292,7 +271,7 @@ mod tests {
         open(&mut backend, served);
         flushed(&mut backend, served, 0, 0);
         let plan = started(&mut backend, served, 1);
-        let before = backend.meters;
+        let before = meters(&backend);
         assert_eq!(backend.turn(), Turn::Idle);
         assert_eq!(backend.close(served), Err(Refusal::InFlight));
         let stale = Name {
@@ -305,7 +284,7 @@ mod tests {
             ..plan.name
         };
         assert_eq!(backend.complete(elsewhere, 0), Err(Refusal::IsClosed));
-        assert_eq!(backend.meters, before);
+        assert_eq!(meters(&backend), before);
     }
 
     /// The entries of requests with their results.

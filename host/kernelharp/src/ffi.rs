@@ -1,8 +1,8 @@
-//! All that needs `unsafe`: the archive's C functions over backend memory, and the words of a page
-//! that a guest writes at the same time.
+//! All that needs `unsafe`: the archive's C functions over backend memory, and pages that a guest writes
+//! at the same time, word by word or lent to the calls.
 
-use crate::layout::PAGE_BYTES;
-use crate::names::{Name, Serial, Tag};
+use crate::layout::{PAGE_BYTES, RINGS_BYTES, RING_BYTES};
+use crate::names::{Name, Port, Serial, Tag};
 use crate::runs::Run;
 use crate::words::{
     entry, CollectWords, DoneWords, JoinWords, ManyWords, PutWords, RequestWords, TurnWords,
@@ -14,7 +14,7 @@ use std::sync::atomic::AtomicU32;
 
 /// The version that this package was built for, as `kh_version` gives it: major x 10,000 + minor x
 /// 100 + patch.
-pub const VERSION: u32 = 1000;
+pub const VERSION: u32 = 1100;
 /// How many words of backend memory this package was built for (`KH_MEMORY_WORDS`).
 pub const MEMORY_WORDS: usize = 2153;
 /// How many words of guest memory this package was built for (`KH_GUEST_WORDS`).
@@ -95,11 +95,18 @@ impl fmt::Display for ArchiveMismatch {
             memory_words,
             guest_words,
         } = self;
+        let (linked, due) = (dotted(*version), dotted(VERSION));
         write!(
             f,
-            "the archive is of version {version} with {memory_words} memory words and {guest_words} guest words, not of version {VERSION} with {MEMORY_WORDS} and {GUEST_WORDS}"
+            "the archive is {linked} with {memory_words} memory words and {guest_words} guest words, this package {due} with {MEMORY_WORDS} and {GUEST_WORDS}"
         )
     }
+}
+
+/// A version as releases have it.
+fn dotted(version: u32) -> String {
+    let (major, minor, patch) = (version / 10_000, version / 100 % 100, version % 100);
+    format!("{major}.{minor}.{patch}")
 }
 
 impl std::error::Error for ArchiveMismatch {}
@@ -237,10 +244,38 @@ impl Memory {
 
     /// `kh_turn`
     pub fn turn(&mut self, rings: &mut [u8], grants: &[u8], answer: &mut TurnWords) -> u32 {
+        self.turn_over(rings, grants, answer)
+    }
+
+    /// `kh_complete`
+    pub fn complete(&mut self, rings: &mut [u8], named: Completion, answer: &mut DoneWords) -> u32 {
+        self.complete_over(rings, named, answer)
+    }
+
+    /// `kh_complete_many`: entries are words, three to each, and may be any ([`Entry::words`] has those
+    /// of a list).
+    pub fn complete_many(
+        &mut self,
+        rings: &mut [u8],
+        port: u32,
+        entries: &[u64],
+        answer: &mut ManyWords,
+    ) -> u32 {
+        self.complete_many_over(rings, port, entries, answer)
+    }
+
+    /// `kh_turn` over rings of any kind.
+    pub(crate) fn turn_over<R: Lent + ?Sized>(
+        &mut self,
+        rings: &mut R,
+        grants: &[u8],
+        answer: &mut TurnWords,
+    ) -> u32 {
         let (memory, answer) = (self.words.as_mut_ptr(), answer.as_mut_ptr());
-        let (rings_bytes, rings) = (rings.len(), rings.as_mut_ptr());
-        // SAFETY: `memory` as in `open`; each pointer and length are one slice's; the answer has
-        // its fixed length; and no two of them overlap, for all that is written is lent by &mut.
+        let (rings, rings_bytes) = rings.lend();
+        // SAFETY: `memory` as in `open`; the rings are as `Lent` has them; grants are one slice; the
+        // answer has its fixed length; and no two of them overlap, for all that is written is lent by
+        // &mut.
         unsafe {
             kh_turn(
                 memory,
@@ -253,17 +288,22 @@ impl Memory {
         }
     }
 
-    /// `kh_complete`
-    pub fn complete(&mut self, rings: &mut [u8], named: Completion, answer: &mut DoneWords) -> u32 {
+    /// `kh_complete` over rings of any kind.
+    pub(crate) fn complete_over<R: Lent + ?Sized>(
+        &mut self,
+        rings: &mut R,
+        named: Completion,
+        answer: &mut DoneWords,
+    ) -> u32 {
         let (memory, answer) = (self.words.as_mut_ptr(), answer.as_mut_ptr());
-        let (rings_bytes, rings) = (rings.len(), rings.as_mut_ptr());
+        let (rings, rings_bytes) = rings.lend();
         let Completion {
             port,
             tag,
             serial,
             result,
         } = named;
-        // SAFETY: as in `turn`.
+        // SAFETY: as in `turn_over`.
         unsafe {
             kh_complete(
                 memory,
@@ -278,19 +318,18 @@ impl Memory {
         }
     }
 
-    /// `kh_complete_many`: entries are words, three to each, and may be any ([`Entry::words`] has those
-    /// of a list).
-    pub fn complete_many(
+    /// `kh_complete_many` over rings of any kind.
+    pub(crate) fn complete_many_over<R: Lent + ?Sized>(
         &mut self,
-        rings: &mut [u8],
+        rings: &mut R,
         port: u32,
         entries: &[u64],
         answer: &mut ManyWords,
     ) -> u32 {
         let (memory, answer) = (self.words.as_mut_ptr(), answer.as_mut_ptr());
-        let (rings_bytes, rings) = (rings.len(), rings.as_mut_ptr());
+        let (rings, rings_bytes) = rings.lend();
         let (entry_words, entries) = (entries.len(), entries.as_ptr());
-        // SAFETY: as in `turn`.
+        // SAFETY: as in `turn_over`; entries are one slice.
         unsafe {
             kh_complete_many(
                 memory,
@@ -302,6 +341,31 @@ impl Memory {
                 answer,
             )
         }
+    }
+}
+
+/// Rings that a call can be lent.
+///
+/// # Safety
+///
+/// `lend` gives the first byte and how many they are: bytes that a call may read and write, whatever
+/// they hold, and that nothing else that it is lent overlaps.
+pub(crate) unsafe trait Lent {
+    /// Where they begin, and their length.
+    fn lend(&mut self) -> (*mut u8, usize);
+}
+
+// SAFETY: the pointer and the length are one slice's, lent by &mut.
+unsafe impl Lent for [u8] {
+    fn lend(&mut self) -> (*mut u8, usize) {
+        (self.as_mut_ptr(), self.len())
+    }
+}
+
+// SAFETY: as for a slice.
+unsafe impl Lent for Box<[u8; RINGS_BYTES]> {
+    fn lend(&mut self) -> (*mut u8, usize) {
+        (self.as_mut_ptr(), RINGS_BYTES)
     }
 }
 
@@ -503,6 +567,64 @@ impl Mapping {
     }
 }
 
+/// The words of a row.
+pub const ROW_WORDS: usize = RINGS_BYTES / WORD_BYTES;
+
+/// The rings of all ports where this program has the guests' own pages mapped, in one row: port k's
+/// share is the 8,192 bytes from 8,192 k on ([`crate::layout::RING_BYTES`]). Where a port is closed, or
+/// has no second page, some page of the host's own stands there.
+///
+/// There is never a slice or a reference over the row: the calls are given its address, and each byte
+/// that a call reads is loaded once.
+#[derive(Debug)]
+pub struct Row {
+    first: NonNull<u32>,
+}
+
+// SAFETY: `new` asks that the row stays valid wherever the value goes.
+unsafe impl Send for Row {}
+
+impl Row {
+    /// A row that was mapped.
+    ///
+    /// # Safety
+    ///
+    /// As long as the value lives, or whoever it is given to:
+    ///
+    /// - `row` points to 65,536 bytes, aligned to 4, that may be read and written. A host that maps
+    ///   another page in a share's place does so in one step, or between two calls.
+    /// - Guests may write these bytes at any time. This program has no reference to any of them but to
+    ///   atomics, and where a thread of it plays a guest, it too goes by volatile or atomic accesses.
+    pub unsafe fn new(row: NonNull<[u8; RINGS_BYTES]>) -> Row {
+        let first = row.cast::<u32>();
+        assert!(first.is_aligned(), "a row of pages is aligned");
+        Row { first }
+    }
+
+    /// A row of this program's own, whose guests are threads of it.
+    pub fn of_atomics(row: &'static [AtomicU32; ROW_WORDS]) -> Row {
+        // SAFETY: the row is never freed, has as many words and their alignment, and whoever else
+        // reaches it does so by atomics, which may be written through shared references.
+        unsafe { Row::new(NonNull::from(row).cast()) }
+    }
+
+    /// The first page of a port's share, which has the indices.
+    pub(crate) fn first_page(&self, port: Port) -> Mapping {
+        // SAFETY: a port's share lies in the row, which `new` asks to stay valid.
+        let page = unsafe { self.first.add(RING_BYTES / WORD_BYTES * port.index()) };
+        Mapping { page }
+    }
+}
+
+// SAFETY: `new` asks for so many bytes, to be read and written as long as the value lives, and that
+// nothing of this program overlaps them. What guests write meanwhile makes no call unsound: none asks
+// anything of the bytes, and the archive is machine code, which takes each as it finds it.
+unsafe impl Lent for Row {
+    fn lend(&mut self) -> (*mut u8, usize) {
+        (self.first.as_ptr().cast(), RINGS_BYTES)
+    }
+}
+
 #[cfg(test)]
 mod tests {
     use super::*;
@@ -579,10 +701,19 @@ mod tests {
             let fault = check_archive(other).unwrap_err();
             assert_eq!(fault, other);
             let told = format!(
-                "version {} with {} memory words and {} guest words, not",
-                other.version, other.memory_words, other.guest_words
+                "the archive is {} with {} memory words and {} guest words, this package {} with",
+                dotted(other.version),
+                other.memory_words,
+                other.guest_words,
+                env!("CARGO_PKG_VERSION")
             );
-            assert!(fault.to_string().contains(&told), "{fault}");
+            assert!(fault.to_string().starts_with(&told), "{fault}");
         }
+    }
+
+    #[test]
+    fn versions_have_three_parts() {
+        let versions = [900, 1000, 1100, 10_203, 123_456].map(dotted);
+        assert_eq!(versions, ["0.9.0", "0.10.0", "0.11.0", "1.2.3", "12.34.56"]);
     }
 }

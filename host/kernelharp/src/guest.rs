@@ -1,8 +1,8 @@
 //! The guest's half, typed: requests to put on a ring page, and responses collected from it.
 
-use crate::backend::outcome;
 use crate::ffi::{ArchiveMismatch, GuestMemory};
 use crate::layout::{GUEST_PAGE_BYTES, SEGMENTS};
+use crate::lender::outcome;
 use crate::terms::{Operation, Refusal, Status};
 use crate::words::{
     collect, put, request, segment, CollectWords, RequestWords, COLLECT_WORDS, PUT_WORDS,

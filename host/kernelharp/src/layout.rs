@@ -44,6 +44,8 @@ pub const RESPONSE_BYTES: usize = 16;
 pub const RESPONSE32_BYTES: usize = 12;
 /// The most segments a request holds.
 pub const SEGMENTS: usize = 11;
+/// A segment of a request: the frame's reference, its first and its last sector, and two bytes unused.
+pub const SEGMENT_BYTES: usize = 8;
 /// The most extents of a plan: one to a segment.
 pub const EXTENTS: usize = SEGMENTS;
 /// Entries that a list of completions can have, at most, whatever the ring.

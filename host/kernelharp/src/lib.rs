@@ -6,7 +6,10 @@
 //!   Each port has its [`Meter`], which the calls raise ([`Backend::meter`], [`Backend::take_meter`]).
 //! - [`Plan::join`]: a plan's extents joined to [`Run`]s, for fewer disk calls.
 //! - [`Guest`]: the guest's half, for guest images: it puts a [`Request`] and collects a [`Response`].
-//! - [`live`]: backend and guest over rings that the other side may write at the same time.
+//! - [`live`]: backends and guest over rings that the other side may write at the same time: private
+//!   copies are lent ([`live::LiveBackend`]) or the live pages themselves ([`live::DirectBackend`]). Both
+//!   backends count what their ports do ([`live::Counters`]); the first has hooks for references of
+//!   1,024 and more, and for a trace.
 //! - [`Sheet`]: node sheets from a disk's properties, its guest's layout ([`Abi`]) and the pages of its
 //!   ring ([`Pages`]).
 //! - [`Memory`]: the C functions over slices of any length, for tests and for hosts with buffers of
@@ -32,6 +35,7 @@ mod backend;
 mod ffi;
 mod guest;
 pub mod layout;
+mod lender;
 pub mod live;
 mod names;
 mod runs;

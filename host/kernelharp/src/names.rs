@@ -29,9 +29,13 @@ impl Port {
 impl TryFrom<u32> for Port {
     type Error = Refusal;
 
+    #[inline]
     fn try_from(number: u32) -> Result<Port, Refusal> {
-        let port = Port::all().find(|port| port.number() == number);
-        port.ok_or(Refusal::NoPort)
+        if number < PORTS as u32 {
+            Ok(Port(number as u8))
+        } else {
+            Err(Refusal::NoPort)
+        }
     }
 }
 

@@ -2,9 +2,9 @@
 //! disk call each.
 
 use crate::answers::{Extent, Plan};
-use crate::backend::outcome;
 use crate::ffi::join_extents;
 use crate::layout::EXTENTS;
+use crate::lender::outcome;
 use crate::terms::Refusal;
 use crate::words::{extent, JOIN_WORDS};
 use std::fmt;

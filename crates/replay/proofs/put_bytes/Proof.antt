@@ -1,27 +1,25 @@
 -- `replay::put_bytes` is safe and ends. The measure is the bytes that are left. Assumes nothing.
 use borrow.Author.Needs.{needs}
+use mathlib.Core.Path.{_≡_}
 use Prim.Native.Nat.{_-_}
 use lib.ListN.{length}
 use Rattle.replay.proofs.put_bytes.Statement.{statement}
 use Rattle.replay.proofs.put_bytes.Tie as tie
 
 abbrev Inv-loop : tie.InvT-loop
-Inv-loop rings₀ from bytes at₀ i₀ rings at i = Unit {0}
+Inv-loop room₀ from bytes at₀ i₀ room at i = length room ≡ length room₀
 
 abbrev μ-loop : tie.MeasureT-loop
-μ-loop rings₀ from bytes at₀ i₀ rings at i = length bytes - i
+μ-loop room₀ from bytes at₀ i₀ room at i = length bytes - i
 
 loop-holds : tie.Need-loop-holds Inv-loop μ-loop
 loop-holds c = search needs
 
-shared-slice-read-rings : tie.Need-shared-slice-read-rings Inv-loop μ-loop
-shared-slice-read-rings c = search needs
+shared-slice-read-put-byte : tie.Need-shared-slice-read-put-byte Inv-loop μ-loop
+shared-slice-read-put-byte c = search needs
 
-element-write-rings : tie.Need-element-write-rings Inv-loop μ-loop
-element-write-rings c = search needs
-
-add-at : tie.Need-add-at Inv-loop μ-loop
-add-at c = search needs
+put-byte-requires : tie.Need-put-byte-requires Inv-loop μ-loop
+put-byte-requires c κs = search needs
 
 add-i : tie.Need-add-i Inv-loop μ-loop
 add-i c = search needs
@@ -31,6 +29,9 @@ loop-less c = search needs
 
 loop-again : tie.Need-loop-again Inv-loop μ-loop
 loop-again c = search needs
+
+same-length : tie.Need-same-length Inv-loop μ-loop
+same-length c = search needs
 
 returns : tie.Need-returns Inv-loop μ-loop
 returns c = search needs
@@ -42,10 +43,10 @@ put-bytes-spec =
     Inv-loop
     μ-loop
     loop-holds
-    shared-slice-read-rings
-    element-write-rings
-    add-at
+    shared-slice-read-put-byte
+    put-byte-requires
     add-i
     loop-less
     loop-again
+    same-length
     returns)

@@ -6,10 +6,10 @@ use Rattle.replay.proofs.run.Statement.{statement}
 use Rattle.replay.proofs.run.Tie as tie
 
 abbrev Inv-loop : tie.InvT-loop
-Inv-loop text memory₀ rings₀ shown₀ grants₀ meters₀ at₀ memory rings shown grants meters at = at ≤ length text + 1
+Inv-loop text isWhole memory₀ rings₀ shown₀ grants₀ meters₀ at₀ memory rings shown grants meters at = at ≤ length text + 1
 
 abbrev μ-loop : tie.MeasureT-loop
-μ-loop text memory₀ rings₀ shown₀ grants₀ meters₀ at₀ memory rings shown grants meters at = length text + 1 - at
+μ-loop text isWhole memory₀ rings₀ shown₀ grants₀ meters₀ at₀ memory rings shown grants meters at = length text + 1 - at
 
 loop-holds : tie.Need-loop-holds Inv-loop μ-loop
 loop-holds c = search needs

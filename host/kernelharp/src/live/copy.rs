@@ -57,24 +57,3 @@ impl Live for [Mapping] {
 fn words_of(at: usize, bytes: usize) -> impl Iterator<Item = usize> {
     (at..at + bytes).step_by(WORD_BYTES)
 }
-
-/// Whether an index lies in (old, new], around the wrap too.
-pub(super) fn lies_within(index: u32, old: u32, new: u32) -> bool {
-    new.wrapping_sub(index) < new.wrapping_sub(old)
-}
-
-#[cfg(test)]
-mod tests {
-    use super::lies_within;
-
-    #[test]
-    fn within_old_and_new() {
-        assert!(lies_within(6, 5, 6));
-        assert!(!lies_within(5, 5, 6));
-        assert!(!lies_within(7, 5, 6));
-        assert!(lies_within(6, 5, 9) && lies_within(9, 5, 9));
-        assert!(!lies_within(5, 5, 9) && !lies_within(10, 5, 9));
-        assert!(lies_within(0, u32::MAX, 0) && !lies_within(u32::MAX, u32::MAX, 0));
-        assert!(!lies_within(5, 5, 5));
-    }
-}

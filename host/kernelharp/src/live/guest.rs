@@ -1,10 +1,10 @@
 //! A guest over its live ring page.
 
 use super::OwnPage;
-use crate::backend::zeros;
 use crate::ffi::{ArchiveMismatch, Mapping};
 use crate::guest::{Guest, Request, Response};
 use crate::layout::PAGE_BYTES;
+use crate::lender::zeros;
 use crate::terms::Refusal;
 
 /// A [`Guest`] whose page is live. What it answers about notifying holds for that page.

@@ -1,6 +1,7 @@
 //! A guest's own ring page, which the backend may write at the same time.
 
-use super::copy::{lies_within, Live};
+use super::copy::Live;
+use super::looks::notifies;
 use crate::ffi::{Mapping, WORD_BYTES};
 use crate::layout::{write_u32, Abi, Pages, PAGE_BYTES, REQ_EVENT, REQ_PROD, RSP_EVENT, RSP_PROD};
 use std::sync::atomic::{fence, Ordering};
@@ -53,11 +54,7 @@ impl OwnPage {
         fence(Ordering::Release);
         self.page.copy_out(REQ_PROD, WORD_BYTES, private);
         self.req_prod_pvt = new;
-        // The index is out before the backend's wish is looked at again: it may have gone to sleep
-        // since the call's look.
-        fence(Ordering::SeqCst);
-        let req_event = self.page.number(REQ_EVENT);
-        call_said || lies_within(req_event, old, new)
+        notifies(&self.page, REQ_EVENT, (old, new), call_said)
     }
 
     /// Before a collect: rsp_prod, and the next response where there is one.

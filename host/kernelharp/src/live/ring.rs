@@ -1,6 +1,7 @@
 //! One ring that a guest may write at the same time.
 
-use super::copy::{lies_within, Live};
+use super::copy::Live;
+use super::looks::{notifies, read_fence};
 use crate::ffi::{Mapping, WORD_BYTES};
 use crate::layout::{write_u32, Abi, Pages, REQ_EVENT, REQ_PROD, RING_BYTES, RSP_EVENT, RSP_PROD};
 use std::sync::atomic::{fence, Ordering};
@@ -8,10 +9,11 @@ use std::sync::atomic::{fence, Ordering};
 /// A live ring of one page or of two, and what the host itself counts of its port.
 ///
 /// The ring lent to a call is the private one, which stands for the guest's as it is at that call
-/// (rules 1.6 and 5.15). A request that was copied and still waits stays there and is not copied again:
-/// a sound guest leaves it alone. So the private ring given must be the same at each call. A guest that
-/// takes requests back, its req_prod seen behind them or beyond the ring, has what waits later copied
-/// anew.
+/// (rules 1.6 and 5.15). Of the requests that wait the next one alone is copied, for a turn takes no more
+/// of a port. It stays there until it is taken and is not copied again, so the private ring given must
+/// be the same at each call. A guest may rewrite a request until it is copied; a sound one leaves alone
+/// what it has published. A guest that takes the next request back, its req_prod seen at it or beyond the
+/// ring, has what waits later copied anew.
 ///
 /// Each page is mapped by itself, wherever that is. A port that is opened for one page has the first of
 /// them, and nothing is read or written of the second.
@@ -30,9 +32,18 @@ pub struct SharedRing {
     req_cons: u32,
     /// Responses given since the opening (rule 4.2).
     rsp_prod_pvt: u32,
-    /// Requests before this index are in the private ring.
-    copied: u32,
+    /// Whether the next request is in the private ring.
+    copied: bool,
     broken: bool,
+    left_out: bool,
+}
+
+/// A request in the private ring, as it was copied.
+pub(super) struct Copied<'a> {
+    pub(super) abi: Abi,
+    /// The number of its slot.
+    pub(super) slot: usize,
+    pub(super) bytes: &'a mut [u8],
 }
 
 impl SharedRing {
@@ -54,8 +65,9 @@ impl SharedRing {
             abi,
             req_cons: 0,
             rsp_prod_pvt: 0,
-            copied: 0,
+            copied: false,
             broken: false,
+            left_out: false,
         }
     }
 
@@ -80,22 +92,45 @@ impl SharedRing {
         self.abi = abi;
         self.req_cons = 0;
         self.rsp_prod_pvt = 0;
-        self.copied = 0;
+        self.copied = false;
         self.broken = false;
+        self.left_out = false;
         private.fill(0);
     }
 
-    /// Before a turn: req_prod, the requests not yet copied, and rsp_event. A broken port is served
-    /// no more, so nothing is read of its ring.
+    /// Leaves the port out of turns, or lets it in: in the private ring nothing waits, and what does in
+    /// the live one is copied anew by the turns that it is not left out of.
+    pub(super) fn leave_out(&mut self, out: bool, private: &mut [u8; RING_BYTES]) {
+        self.left_out = out;
+        self.copied = false;
+        write_u32(private, REQ_PROD, self.req_cons);
+    }
+
+    /// Whether turns have to do with it: a broken port is served no more.
+    fn is_served(&self) -> bool {
+        !self.broken && !self.left_out
+    }
+
+    /// Before a turn: req_prod, the next request unless it was copied, and rsp_event. Of a port that
+    /// isn't served nothing is read.
     pub fn copy_in(&mut self, private: &mut [u8; RING_BYTES]) {
-        if self.broken {
+        self.copy_in_by(private, |_| ());
+    }
+
+    /// The same; a request that was copied is handed on, to be changed.
+    pub(super) fn copy_in_by(
+        &mut self,
+        private: &mut [u8; RING_BYTES],
+        copied: impl FnOnce(Copied),
+    ) {
+        if !self.is_served() {
             return;
         }
         let req_prod = self.mapped.number(REQ_PROD);
         // A request is read after the index that published it.
-        fence(Ordering::Acquire);
+        read_fence();
         write_u32(private, REQ_PROD, req_prod);
-        self.copy_requests_in(req_prod, private);
+        self.copy_request_in(req_prod, private, copied);
         self.copy_rsp_event_in(private);
     }
 
@@ -107,6 +142,7 @@ impl SharedRing {
     /// After a turn that took a request, started or answered.
     pub fn took_request(&mut self) {
         self.req_cons = self.req_cons.wrapping_add(1);
+        self.copied = false;
     }
 
     /// After a turn that answered overrun.
@@ -117,7 +153,7 @@ impl SharedRing {
     /// After an idle turn: req_event, which the turn wrote for open ports alone. The fence and the
     /// second turn that follow are for all ports at once, so they are the caller's.
     pub fn copy_req_event_out(&self, private: &[u8; RING_BYTES]) {
-        if !self.broken {
+        if self.is_served() {
             self.mapped.copy_out(REQ_EVENT, WORD_BYTES, private);
         }
     }
@@ -156,30 +192,33 @@ impl SharedRing {
         fence(Ordering::Release);
         self.mapped.copy_out(RSP_PROD, WORD_BYTES, private);
         self.rsp_prod_pvt = new;
-        // The index is out before the guest's wish is looked at again: it may have gone to sleep
-        // since the call's look.
-        fence(Ordering::SeqCst);
-        let rsp_event = self.mapped.number(RSP_EVENT);
-        call_said || lies_within(rsp_event, old, new)
+        notifies(&self.mapped[..], RSP_EVENT, (old, new), call_said)
     }
 
-    /// The requests between the last one copied and req_prod. Beyond the ring there are none: the
-    /// turn finds the overrun by req_prod alone, and should req_prod come back before that turn, what
-    /// then waits is copied anew.
-    fn copy_requests_in(&mut self, req_prod: u32, private: &mut [u8; RING_BYTES]) {
+    /// The next request, where it is not in the private ring yet. None is there when none waits, or more
+    /// than there is room for: the turn finds the overrun by req_prod alone, and should req_prod come
+    /// back before that turn, the next request is copied anew.
+    fn copy_request_in(
+        &mut self,
+        req_prod: u32,
+        private: &mut [u8; RING_BYTES],
+        copied: impl FnOnce(Copied),
+    ) {
         let in_flight = self.req_cons.wrapping_sub(self.rsp_prod_pvt);
         let waiting = req_prod.wrapping_sub(self.req_cons);
-        if waiting > self.pages.slots().saturating_sub(in_flight) {
-            self.copied = self.req_cons;
-            return;
+        let room = self.pages.slots().saturating_sub(in_flight);
+        if waiting == 0 || waiting > room {
+            self.copied = false;
+        } else if !self.copied {
+            let (at, bytes) = (self.slot_at(self.req_cons), self.abi.slot_bytes());
+            self.mapped.copy_in(at, bytes, private);
+            copied(Copied {
+                abi: self.abi,
+                slot: (self.req_cons % self.pages.slots()) as usize,
+                bytes: &mut private[at..at + bytes],
+            });
+            self.copied = true;
         }
-        // Fewer than were copied when the guest has moved req_prod back.
-        let held = self.copied.wrapping_sub(self.req_cons).min(waiting);
-        for ahead in held..waiting {
-            let at = self.slot_at(self.req_cons.wrapping_add(ahead));
-            self.mapped.copy_in(at, self.abi.slot_bytes(), private);
-        }
-        self.copied = req_prod;
     }
 
     /// Where the slot of an index begins.

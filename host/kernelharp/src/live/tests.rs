@@ -1,6 +1,7 @@
 //! Plain memory stands in for a guest's ring; the guest's part is played between the calls, or
 //! between a call's copying in and out.
 
+use super::looks::tests::{after_the_index, meanwhile};
 use super::{LiveBackend, Mapping, NotOpened, SharedRing, PAGE_WORDS};
 use crate::answers::{Plan, Turn};
 use crate::ffi::{Entry, Meter};
@@ -10,7 +11,7 @@ use crate::layout::{
 };
 use crate::names::{Name, Port, Serial, Tag};
 use crate::sheet::Sheet;
-use crate::terms::{Reason, Refusal, Status};
+use crate::terms::{Operation, Reason, Refusal, Status};
 use std::ops::Range;
 use std::sync::atomic::{AtomicU32, Ordering};
 
@@ -50,7 +51,9 @@ macro_rules! with_every_ring {
 }
 
 with_every_ring! {
-    only_new_requests_and_two_indices_are_copied_in
+    the_next_request_and_two_indices_are_copied_in
+    req_prod_is_loaded_once
+    a_request_published_after_the_load_is_served_whole
     a_waiting_request_is_not_copied_again
     a_req_prod_moved_back_takes_its_requests_back
     an_overrun_drawn_back_leaves_nothing_copied
@@ -59,6 +62,7 @@ with_every_ring! {
     every_request_of_a_full_ring_is_copied
     a_response_leaves_what_the_guest_wrote_meanwhile
     rsp_event_is_looked_at_again
+    req_prod_is_looked_at_again
     responses_of_a_list_go_out_together
     rsp_event_is_looked_at_again_after_a_list
     an_empty_list_leaves_the_ring
@@ -66,6 +70,8 @@ with_every_ring! {
     turns_and_completions_through_a_live_ring
     lists_through_a_live_ring
     a_broken_port_is_neither_read_nor_armed_but_completes
+    a_port_left_out_is_neither_read_nor_armed_but_completes
+    opening_lets_in_and_broken_stays_broken
     every_slot_comes_round
     a_port_is_metered_across_openings
     nothing_of_another_ring_stays
@@ -176,7 +182,7 @@ impl Guest {
     }
 
     /// A word of the ring, whichever page it is in.
-    fn word(&self, at: usize) -> &AtomicU32 {
+    fn word(&self, at: usize) -> &'static AtomicU32 {
         &self.page(at / PAGE_BYTES)[at % PAGE_BYTES / 4]
     }
 
@@ -252,98 +258,149 @@ fn started(turn: Turn) -> Plan {
     }
 }
 
-fn only_new_requests_and_two_indices_are_copied_in(abi: Abi, pages: Pages) {
+/// The guest publishes after the first look.
+fn req_prod_is_looked_at_again(abi: Abi, pages: Pages) {
+    let (mut backend, guest) = opened(abi, pages);
+    guest.put(0, FLUSH);
+    meanwhile(move || guest.set(REQ_PROD, 1));
+    assert_eq!(started(backend.turn()).name.port, port(2));
+}
+
+/// However many wait.
+fn the_next_request_and_two_indices_are_copied_in(abi: Abi, pages: Pages) {
     let guest = Guest::new(abi, pages);
     let (mut shared, mut private) = guest.opened();
     let mut due = private;
+    guest.set(REQ_PROD, pages.slots());
+    guest.set(REQ_EVENT, 55);
+    guest.set(RSP_PROD, 66);
+    guest.set(RSP_EVENT, 77);
+    write_u32(&mut due, REQ_PROD, pages.slots());
+    write_u32(&mut due, RSP_EVENT, 77);
     for index in 0..2 {
         let slot = vec![7 + index as u8; abi.slot_bytes()];
         guest.write(guest.slot_at(index), &slot);
         due[guest.slot(index)].copy_from_slice(&slot);
+        shared.copy_in(&mut private);
+        assert_eq!(private, due);
+        shared.took_request();
     }
-    guest.set(REQ_PROD, 2);
-    guest.set(REQ_EVENT, 55);
-    guest.set(RSP_PROD, 66);
-    guest.set(RSP_EVENT, 77);
-    shared.copy_in(&mut private);
-    write_u32(&mut due, REQ_PROD, 2);
-    write_u32(&mut due, RSP_EVENT, 77);
-    assert_eq!(private, due);
 }
 
+/// What the guest writes between the load of req_prod and that of the request changes neither the index
+/// that the call is given, nor whether a request goes with it.
+fn req_prod_is_loaded_once(abi: Abi, pages: Pages) {
+    let beyond = pages.slots() + 1;
+    for (loaded, later) in [(0, 1), (1, 0), (1, 2), (1, beyond), (beyond, 1)] {
+        let guest = Guest::new(abi, pages);
+        let (mut shared, mut private) = guest.opened();
+        guest.put(0, FLUSH);
+        guest.set(REQ_PROD, loaded);
+        let (req_prod, slot_at) = (guest.word(REQ_PROD), guest.slot_at(0));
+        after_the_index(move || req_prod.store(later.to_le(), Ordering::Relaxed));
+        shared.copy_in(&mut private);
+        assert_eq!(guest.get(REQ_PROD), later, "the guest was let in");
+        assert_eq!(read_u32(&private, REQ_PROD), loaded);
+        let due = if loaded == 1 { FLUSH } else { 0 };
+        assert_eq!(private[slot_at], due, "{loaded}, then {later}");
+    }
+}
+
+/// The same by a turn: a request that is published so is served in the second look, whole.
+fn a_request_published_after_the_load_is_served_whole(abi: Abi, pages: Pages) {
+    let (mut backend, guest) = opened(abi, pages);
+    guest.put(0, FLUSH);
+    let req_prod = guest.word(REQ_PROD);
+    after_the_index(|| req_prod.store(1u32.to_le(), Ordering::Relaxed));
+    assert_eq!(started(backend.turn()).operation, Operation::Flush);
+}
+
+/// A request can be rewritten until it is copied.
 fn a_waiting_request_is_not_copied_again(abi: Abi, pages: Pages) {
     let guest = Guest::new(abi, pages);
     let (mut shared, mut private) = guest.opened();
     guest.post(0, 1);
     guest.post(1, 1);
     shared.copy_in(&mut private);
-    shared.took_request();
+    guest.put(0, 2);
     guest.put(1, 2);
     guest.post(2, 2);
     shared.copy_in(&mut private);
-    assert_eq!(operations(&guest, &private), [1, 1, 2]);
+    assert_eq!(operations(&guest, &private), [1, 0, 0]);
+    shared.took_request();
+    shared.copy_in(&mut private);
+    assert_eq!(operations(&guest, &private), [1, 2, 0]);
 }
 
+/// Behind the next request; with fewer that wait behind that one it stays as it is.
 fn a_req_prod_moved_back_takes_its_requests_back(abi: Abi, pages: Pages) {
-    let guest = Guest::new(abi, pages);
-    let (mut shared, mut private) = guest.opened();
-    for index in 0..3 {
-        guest.post(index, 1);
+    for (back, due) in [(2, 1), (1, 1), (0, 2)] {
+        let guest = Guest::new(abi, pages);
+        let (mut shared, mut private) = guest.opened();
+        guest.put(0, 1);
+        guest.set(REQ_PROD, 3);
+        shared.copy_in(&mut private);
+        guest.set(REQ_PROD, back);
+        shared.copy_in(&mut private);
+        guest.post(0, 2);
+        shared.copy_in(&mut private);
+        assert_eq!(operations(&guest, &private), [due], "{back}");
     }
-    shared.copy_in(&mut private);
-    guest.set(REQ_PROD, 1);
-    shared.copy_in(&mut private);
-    for index in 0..3 {
-        guest.post(index, 2);
-    }
-    shared.copy_in(&mut private);
-    assert_eq!(operations(&guest, &private), [1, 2, 2]);
 }
+
+/// With so many in flight, a req_prod so far beyond the room there is.
+const BEYOND: [(u32, u32); 5] = [(0, 1), (0, 8), (3, 1), (3, 3), (3, 8)];
 
 /// What waits when req_prod was beyond the ring and has come back is what the ring holds then, not
 /// what it held before.
 fn an_overrun_drawn_back_leaves_nothing_copied(abi: Abi, pages: Pages) {
-    let guest = Guest::new(abi, pages);
-    let (mut shared, mut private) = guest.opened();
-    for index in 0..2 {
-        guest.post(index, 1);
+    for (in_flight, beyond) in BEYOND {
+        let guest = Guest::new(abi, pages);
+        let (mut shared, mut private) = guest.opened();
+        (0..in_flight).for_each(|_| shared.took_request());
+        guest.post(in_flight, 1);
+        shared.copy_in(&mut private);
+        guest.set(REQ_PROD, pages.slots() + beyond);
+        shared.copy_in(&mut private);
+        guest.post(in_flight, 2);
+        shared.copy_in(&mut private);
+        let copied = private[guest.slot_at(in_flight)];
+        assert_eq!(copied, 2, "{in_flight} in flight, {beyond} beyond");
     }
-    shared.copy_in(&mut private);
-    guest.set(REQ_PROD, pages.slots() + 1);
-    shared.copy_in(&mut private);
-    for index in 0..2 {
-        guest.post(index, 2);
-    }
-    shared.copy_in(&mut private);
-    assert_eq!(operations(&guest, &private), [2, 2]);
 }
 
 /// The same by turns: while port 2 is beyond the ring, port 1 is served, a guest of the other layout and
-/// size.
+/// size, and while its request is copied, port 0.
 fn an_overrun_drawn_back_serves_the_ring_as_it_is(abi: Abi, pages: Pages) {
-    let (mut backend, guest) = opened(abi, pages);
-    let Guest { abi, pages, .. } = guest.other();
-    let other = Guest::new(abi, pages);
-    let ring = other.share();
-    backend.open(port(1), &other.sheet(), ring).unwrap();
-    other.post(0, FLUSH);
-    guest.post(0, FLUSH);
-    assert_eq!(started(backend.turn()).name.port, port(1));
-    other.post(1, FLUSH);
-    guest.post(1, FLUSH);
-    assert_eq!(started(backend.turn()).name.port, port(2));
-    guest.set(REQ_PROD, guest.pages.slots() + 8);
-    other.post(2, FLUSH);
-    assert_eq!(started(backend.turn()).name.port, port(1));
-    // Copied as a flush two turns ago; drawn back, it is something else.
-    guest.post(1, UNKNOWN);
-    let Turn::Answered {
-        port: at, reason, ..
-    } = backend.turn()
-    else {
-        panic!("an unknown operation is answered");
-    };
-    assert_eq!((at, reason), (port(2), Reason::UnknownOperation));
+    for (in_flight, beyond) in BEYOND {
+        let (mut backend, guest) = opened(abi, pages);
+        let Guest { abi, pages, .. } = guest.other();
+        let others = [0, 1].map(|number| {
+            let other = Guest::new(abi, pages);
+            let ring = other.share();
+            backend.open(port(number), &other.sheet(), ring).unwrap();
+            other
+        });
+        for index in 0..in_flight {
+            guest.post(index, FLUSH);
+            assert_eq!(started(backend.turn()).name.port, port(2));
+        }
+        guest.post(in_flight, FLUSH);
+        for (number, other) in (0..).zip(&others) {
+            other.post(0, FLUSH);
+            assert_eq!(started(backend.turn()).name.port, port(number));
+            guest.set(REQ_PROD, guest.pages.slots() + beyond);
+        }
+        // Copied as a flush two turns ago; drawn back, it is something else.
+        guest.post(in_flight, UNKNOWN);
+        let Turn::Answered {
+            port: at, reason, ..
+        } = backend.turn()
+        else {
+            panic!("an unknown operation is answered: {in_flight}, {beyond}");
+        };
+        assert_eq!((at, reason), (port(2), Reason::UnknownOperation));
+    }
 }
 
 fn no_request_is_copied_beyond_the_ring(abi: Abi, pages: Pages) {
@@ -353,10 +410,9 @@ fn no_request_is_copied_beyond_the_ring(abi: Abi, pages: Pages) {
         let (mut shared, mut private) = guest.opened();
         guest.set(REQ_PROD, req_prod);
         shared.copy_in(&mut private);
-        let bytes = slots as usize * abi.slot_bytes();
-        let (slots, behind) = private[guest.slot_at(0)..].split_at(bytes);
+        let (slot, behind) = private[guest.slot_at(0)..].split_at(abi.slot_bytes());
         let due = if copied { PATTERN } else { 0 };
-        assert!(slots.iter().all(|&byte| byte == due), "{req_prod}");
+        assert!(slot.iter().all(|&byte| byte == due), "{req_prod}");
         assert!(behind.iter().all(|&byte| byte == 0), "{req_prod}");
     }
 }
@@ -367,17 +423,18 @@ fn every_request_of_a_full_ring_is_copied(abi: Abi, pages: Pages) {
     let guest = Guest::new(abi, pages);
     let (mut shared, mut private) = guest.opened();
     let mut due = private;
+    guest.set(REQ_PROD, pages.slots());
+    write_u32(&mut due, REQ_PROD, pages.slots());
     for slot in 0..pages.slots() {
         let bytes: Vec<u8> = (0..abi.slot_bytes())
-            .map(|at| (at as u8).wrapping_add(7 * slot as u8))
+            .map(|at| (at as u8).wrapping_add(7u8.wrapping_mul(slot as u8)))
             .collect();
         guest.write(guest.slot_at(slot), &bytes);
         due[guest.slot(slot)].copy_from_slice(&bytes);
+        shared.copy_in(&mut private);
+        assert_eq!(private, due);
+        shared.took_request();
     }
-    guest.set(REQ_PROD, pages.slots());
-    write_u32(&mut due, REQ_PROD, pages.slots());
-    shared.copy_in(&mut private);
-    assert_eq!(private, due);
 }
 
 fn a_response_leaves_what_the_guest_wrote_meanwhile(abi: Abi, pages: Pages) {
@@ -597,6 +654,62 @@ fn a_broken_port_is_neither_read_nor_armed_but_completes(abi: Abi, pages: Pages)
     guest.post(0, FLUSH);
     backend.open(port(2), &guest.sheet(), ring).unwrap();
     assert_eq!(started(backend.turn()).name.serial, Serial(0));
+}
+
+fn a_port_left_out_is_neither_read_nor_armed_but_completes(abi: Abi, pages: Pages) {
+    let (mut backend, guest) = opened(abi, pages);
+    let other = Guest::new(abi, pages);
+    backend
+        .open(port(3), &other.sheet(), other.share())
+        .unwrap();
+    guest.post(0, FLUSH);
+    guest.post(1, FLUSH);
+    let plan = started(backend.turn());
+    other.post(0, FLUSH);
+    assert_eq!(started(backend.turn()).name.port, port(3));
+    assert!(backend.leave_out(port(2), true));
+    assert_eq!(backend.turn(), Turn::Idle);
+    // Nor is an overrun found.
+    guest.set(REQ_PROD, pages.slots() + 1);
+    guest.set(RSP_EVENT, 1);
+    let before = guest.bytes();
+    assert_eq!(backend.turn(), Turn::Idle);
+    assert_eq!(guest.changed(&before), [0; 0]);
+    assert_eq!(backend.close(port(2)).unwrap_err(), Refusal::InFlight);
+    assert!(backend.complete(plan.name, 0).unwrap().notify);
+    assert_eq!(guest.get(RSP_PROD), 1);
+    // Copied as a flush while port 3 was served, and something else when it is let in.
+    guest.post(1, UNKNOWN);
+    assert_eq!(backend.turn(), Turn::Idle);
+    assert!(backend.leave_out(port(2), false));
+    assert!(matches!(backend.turn(), Turn::Answered { .. }));
+    assert_eq!(guest.get(REQ_EVENT), 0);
+    assert_eq!(backend.turn(), Turn::Idle);
+    assert_eq!(guest.get(REQ_EVENT), 3);
+}
+
+fn opening_lets_in_and_broken_stays_broken(abi: Abi, pages: Pages) {
+    let (mut backend, guest) = opened(abi, pages);
+    assert!(backend.leave_out(port(2), true));
+    let ring = backend.close(port(2)).unwrap();
+    assert!(!backend.leave_out(port(2), true));
+    guest.post(0, FLUSH);
+    backend.open(port(2), &guest.sheet(), ring).unwrap();
+    let plan = started(backend.turn());
+    guest.set(REQ_PROD, pages.slots() + 1);
+    assert_eq!(backend.turn(), Turn::Overrun(port(2)));
+    guest.post(1, FLUSH);
+    guest.set(REQ_EVENT, 99);
+    let before = guest.bytes();
+    for out in [true, false] {
+        assert!(backend.leave_out(port(2), out));
+        assert_eq!(backend.turn(), Turn::Idle);
+        assert_eq!(guest.changed(&before), [0; 0]);
+    }
+    backend.complete(plan.name, 0).map(drop).unwrap();
+    assert_eq!(guest.get(RSP_PROD), 1);
+    backend.close(port(2)).map(drop).unwrap();
+    assert!(!backend.leave_out(port(2), false));
 }
 
 #[test]
