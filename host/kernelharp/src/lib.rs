@@ -25,8 +25,9 @@
 //! [`Status`], [`Operation`]. Enums that may grow are `non_exhaustive`: a host says what it does
 //! with an answer that it does not know. Rules are those of docs/RULES.md in the library's repository.
 //!
-//! The build links `libkernelharp.a`: the file that the variable `KERNELHARP_ARCHIVE` names, else the
-//! one that pkg-config knows as `kernelharp`. [`Backend::new`] and [`Guest::new`] refuse an archive of
+//! The build links `libkernelharp.a`: the file that the variable `KERNELHARP_ARCHIVE` names, else in a
+//! clone of the library's repository the one that was built there, else the one that pkg-config knows
+//! as `kernelharp`. [`Backend::new`] and [`Guest::new`] refuse an archive of
 //! another version than this package.
 
 mod answers;

@@ -144,8 +144,9 @@ impl LiveBackend {
     }
 
     /// Opens a closed port over a ring, which isn't touched. Its layout, and how many of its pages are
-    /// used, is as the sheet says. A ring with fewer pages is told of before all else, and nothing has
-    /// happened then, as with a refusal.
+    /// used, is as the sheet says; it counts from 0, though it was open before. A ring with fewer pages
+    /// is told of before all else, and nothing has happened to the port then, as with a refusal; the ring
+    /// itself goes, and is made anew from its mapping.
     pub fn open(
         &mut self,
         port: Port,
