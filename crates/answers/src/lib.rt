@@ -1,6 +1,8 @@
 // What answers share: the number of a refusal, a status by its magnitude, yes and no.
+#![tactic(auto)]
+
 ghost use Rattle.std.specs.Prelude.{◌≡◌};
-ghost use Rattle.model.specs.Answers.{reply_number, magnitude as magnitudeOf, yes_no};
+ghost use Rattle.model.specs.Answers.{reply_number, magnitude, yes_no};
 
 use model::{Reply, Status};
 
@@ -14,7 +16,7 @@ pub fn number(reply: Reply) -> u32
 }
 
 pub fn magnitude(status: Status) -> u64
-    ensures { result ≡ magnitudeOf status }
+    ensures { result ≡ magnitude status }
 {
     match status {
         Status::Okay => 0,

@@ -1,4 +1,6 @@
 // A guest's request (section 16 of docs/RULES.md): the words that say it, and whether it may be put. It knows neither a page nor a guest's memory.
+#![tactic(auto)]
+
 mod request;
 
 pub use request::{

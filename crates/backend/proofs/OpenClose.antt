@@ -80,3 +80,11 @@ module _ (m : List ℕ) (p : PortId) where
           promised m (Close p) Reply.Done left
           (rw (lt-leb ports p.0 h, view-state (backend_of m) p.0, c, view-in-flight (backend_of m) p.0, eq-eqb _ 0 n)) b
           (λ z. let w : ◌≡◌ {A = ℕ} 0 1 = cc in absurd (omega arith))
+
+-- ---- as the functions' proofs name them
+
+pub ruleset opens = (open-no-port, open-not-closed, open-bad-sheet, open_done)
+
+pub ruleset shuts = (close-in-flight, close-done)
+
+pub ruleset closes = (close-no-port, close-closed)

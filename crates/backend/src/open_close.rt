@@ -25,6 +25,7 @@ fn opened(params: Params) -> Port
 }
 
 // Opens a port from its node sheet.
+#[tactic(auto, using(crate::proofs::OpenClose::opens))]
 pub fn open(memory: &mut [u64; WORDS], port: PortId, sheet: &[u8]) -> Reply
     ensures { Promised memory.old (Open port sheet.now) result memory.new }
 {
@@ -72,6 +73,7 @@ fn closed() -> Port
 }
 
 // Closes a port that is open or broken, unless a request is in flight.
+#[tactic(auto, using(crate::proofs::OpenClose::shuts))]
 fn shut(memory: &mut [u64; WORDS], port: PortId) -> Reply
     requires { InUse (backend_of memory.old) port }
     ensures { Promised memory.old (Close port) result memory.new }
@@ -85,6 +87,7 @@ fn shut(memory: &mut [u64; WORDS], port: PortId) -> Reply
 }
 
 // Closes a port.
+#[tactic(auto, using(crate::proofs::OpenClose::closes))]
 pub fn close(memory: &mut [u64; WORDS], port: PortId) -> Reply
     ensures { Promised memory.old (Close port) result memory.new }
 {

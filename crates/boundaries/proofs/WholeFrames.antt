@@ -12,7 +12,7 @@ use Rattle.model.specs.declared.SectorSize.{SectorSize}
 use Rattle.model.specs.declared.Segment.{Segment}
 use Rattle.model.proofs.Base.{and_left, and_right}
 use Rattle.ranges.proofs.DiskRange.{aligned-one, aligned-all}
-use Rattle.segments.proofs.Slot.{within-ordered, within-last, within-sectors, within-total}
+use Rattle.segments.proofs.Slot.{length-segments, within-ordered, within-last, within-sectors, within-total}
 
 -- every sector is a boundary where the disk's are a request's
 pub one-all : (z : SectorSize) (ss : List Segment) → unit_of z ≡ 1 → all (is_on_boundaries z) ss ≡ true
@@ -65,3 +65,6 @@ module _ (z : SectorSize) where
       by : (b : Bool) → all (is_on_boundaries z) ss ≡ b → b ≡ false
       by true e = absurd (d (only-whole-all ss u w e))
       by false e = refl
+
+-- what a count of the sectors tells, for the automatic steps
+pub ruleset by_count = (one-all, whole-all, not-whole, length-segments)

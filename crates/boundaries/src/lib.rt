@@ -1,4 +1,6 @@
 // Check 29 over a request's segments. Where it takes a second look at them, it is at the copy.
+#![tactic(auto)]
+
 ghost use Rattle.std.specs.Prelude.{true, ◌≡◌, ◌+◌, ◌≤◌};
 ghost use Rattle.model.specs.Base.{all};
 ghost use Rattle.model.specs.Checks.{max_segments, is_within_frame, total_sectors, is_on_boundaries};
@@ -20,6 +22,7 @@ fn end_of(last: u8) -> u64
 }
 
 // Whether each of the first n segments begins and ends where a sector of the disk does.
+#[tactic(auto, using(segments::proofs::Slot::all_next, segments::proofs::Slot::all_end), unfolding(model::specs::Ring::segment_of, model::specs::Checks::is_on_boundaries))]
 fn are_on_boundaries(sector: SectorSize, slot: &[u8; SLOT_BYTES], n: usize) -> bool
     requires { n ≤ max_segments }
     ensures { result ≡ all (is_on_boundaries sector) (segments_of n copy_layout slot.now 0) }
@@ -39,6 +42,7 @@ fn are_on_boundaries(sector: SectorSize, slot: &[u8; SLOT_BYTES], n: usize) -> b
 
 // The same of segments within their frames, `count` sectors in all, mostly without a look at one. As many sectors as n frames have can only be n whole frames, which
 // suit every sector size; fewer never suit sectors as large as a frame.
+#[tactic(auto, using(crate::proofs::WholeFrames::by_count))]
 pub fn keep_to_sectors(sector: SectorSize, slot: &[u8; SLOT_BYTES], n: usize, count: u64) -> bool
     requires { (n ≤ max_segments) × (all is_within_frame (segments_of n copy_layout slot.now 0) ≡ true) × (count ≡ total_sectors (segments_of n copy_layout slot.now 0)) }
     ensures { result ≡ all (is_on_boundaries sector) (segments_of n copy_layout slot.now 0) }

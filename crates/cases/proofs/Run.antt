@@ -20,7 +20,7 @@ use Rattle.model.specs.Turn.{port_id, tag_id, serial_of, pending_at, has_work, p
 use Rattle.model.specs.Complete.{completion_at, completions_from, completions_in, the_one, expected_of, status_of, response_for, responses_for, completed}
 use Rattle.model.specs.Rules.{opened_by, due_open, due_close, due_turn, names_none, any_names_none, any_names, named_twice, refused_completion, due_complete, effect_due}
 use Rattle.model.specs.Backend.{Backend, empty_backend, view_of, with_port, with_tag, with_pointer, does, next, after_call}
-use Rattle.model.specs.History.{Response, Book, asked, said as saidIn, answer_to, book, unfinished, pairs_of, has_to_serve, Seen, turns_of, history_from, history}
+use Rattle.model.specs.History.{Response, Book, asked, said as said_in, answer_to, book, unfinished, pairs_of, has_to_serve, Seen, turns_of, history_from, history}
 use Rattle.model.specs.Answers.{turned_number, turned_words, completed_number, done_left, reply_number}
 use Rattle.model.specs.declared.Pair.{Pair}
 use Rattle.model.specs.declared.Port.{Port}
@@ -245,7 +245,7 @@ computed :
           ∷ turn_seen true (some 2)
           ∷ [];
     }
-unfolding header asking rings grants words load store part set_part all same least tally pages_of set_pages grants_of req_prod set_req_event set_rsp_prod rsp_event ring_for slot_at slot_of segment_of segments_of request_of set_response entry_at body_length entries_from entries_of bodies_end well_formed rising is_digit digits_from capped digits_of number_of choice_body number_body is_sector_size is_allowed body_of after_body after_bodies value_of absent values_of present params_of has_required sheet_of is_busy in_flight_of lowest_free distance pending_of is_empty_barrier moves_nothing sectors_in total_sectors count_of data_segments is_aligned is_on_boundaries is_granted unknown_operation feature_off read_only wrong_amount is_within_frame wrong_segment not_granted past_end unaligned operation_checks segment_checks disk_checks checks extents_from extents_of extent_words words_beside asks_secure is_secure plan_of verdict_of pending_at has_work passed_over armed idle written responded_all responded_all_at tells notifies_all responded responded_at notifies request_at settled overran served_by turned completion_at completions_from completions_in expected_of status_of response_for responses_for completed opened_by due_open due_close due_turn names_none any_names_none any_names named_twice refused_completion due_complete effect_due view_of with_port with_tag with_pointer does next both unknown overfull again three earlier later in_order history_from book answer_to unfinished asked saidIn response_pair turns_of has_to_serve response_status
+unfolding header asking rings grants words load store part set_part all same least tally pages_of set_pages grants_of req_prod set_req_event set_rsp_prod rsp_event ring_for slot_at slot_of segment_of segments_of request_of set_response entry_at body_length entries_from entries_of bodies_end well_formed rising is_digit digits_from capped digits_of number_of choice_body number_body is_sector_size is_allowed body_of after_body after_bodies value_of absent values_of present params_of has_required sheet_of is_busy in_flight_of lowest_free distance pending_of is_empty_barrier moves_nothing sectors_in total_sectors count_of data_segments is_aligned is_on_boundaries is_granted unknown_operation feature_off read_only wrong_amount is_within_frame wrong_segment not_granted past_end unaligned operation_checks segment_checks disk_checks checks extents_from extents_of extent_words words_beside asks_secure is_secure plan_of verdict_of pending_at has_work passed_over armed idle written responded_all responded_all_at tells notifies_all responded responded_at notifies request_at settled overran served_by turned completion_at completions_from completions_in expected_of status_of response_for responses_for completed opened_by due_open due_close due_turn names_none any_names_none any_names named_twice refused_completion due_complete effect_due view_of with_port with_tag with_pointer does next both unknown overfull again three earlier later in_order history_from book answer_to unfinished asked said_in response_pair turns_of has_to_serve response_status
 computed = refl
 
 -- ---- bytes of the rings

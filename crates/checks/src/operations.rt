@@ -55,6 +55,7 @@ fn discard_amount(count: u64) -> u32
 }
 
 // 22 to 25 of a discard, or 0; its flag is not asked. The sectors are looked at first: after the test of the feature, every turn takes two instructions more.
+#[tactic(auto, unfolding(crate::specs::Operations::operation_reason, model::specs::Checks::operation_checks, model::specs::Checks::unknown_operation, model::specs::Checks::feature_off, model::specs::Checks::read_only, model::specs::Checks::wrong_amount, model::specs::Ring::request_of))]
 fn discard_reason(params: model::Params, slot: &[u8; SLOT_BYTES]) -> u32
     requires { get_or slot.now request_operation_at 0 ≡ discard }
     ensures { result ≡ operation_reason params (request_in slot.now) }
@@ -67,6 +68,7 @@ fn discard_reason(params: model::Params, slot: &[u8; SLOT_BYTES]) -> u32
 }
 
 // The first of the checks 21 to 25 that the request fails, or 0. Each operation has its tests to itself, in number order.
+#[tactic(auto, unfolding(crate::specs::Operations::operation_reason, model::specs::Checks::operation_checks, model::specs::Checks::unknown_operation, model::specs::Checks::feature_off, model::specs::Checks::read_only, model::specs::Checks::wrong_amount, model::specs::Ring::request_of))]
 pub fn operation_reason(params: model::Params, slot: &[u8; SLOT_BYTES]) -> u32
     ensures { result ≡ operation_reason params (request_in slot.now) }
 {

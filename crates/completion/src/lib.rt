@@ -1,5 +1,7 @@
 // Completing one started request: the list of one (rule 6.23), in fewer instructions than a list takes. All that is remembered between calls is the lent memory.
 // The call asks nothing of its arguments: what it cannot take it refuses, by number, and then changes nothing.
+#![tactic(auto)]
+
 ghost use Rattle.std.specs.Prelude.{◌≡◌, length};
 ghost use Rattle.model.specs.Buffers.{rings_length};
 ghost use Rattle.model.specs.Calls.{Complete};
@@ -72,7 +74,7 @@ fn complete_named(
     res: i32,
 ) -> Completed
     requires { PortNamed (backend_of memory.old) rings.old port }
-    ensures { Promised memory.old (Complete rings.entry.now port (the_one tag serial res)) (record { rings = rings.exit.now; answer = of_one result }) memory.new }
+    ensures { Promised memory.old (Complete rings.old port (the_one tag serial res)) (record { rings = rings.new; answer = of_one result }) memory.new }
 {
     let k = port.0 as usize;
     let t = tag.0;
@@ -101,7 +103,7 @@ pub fn complete(
     serial: Serial,
     res: i32,
 ) -> Completed
-    ensures { Promised memory.old (Complete rings.entry.now port (the_one tag serial res)) (record { rings = rings.exit.now; answer = of_one result }) memory.new }
+    ensures { Promised memory.old (Complete rings.old port (the_one tag serial res)) (record { rings = rings.new; answer = of_one result }) memory.new }
 {
     if rings.len() != RINGS_BYTES {
         return Completed::Refused(WRONG_LENGTH);

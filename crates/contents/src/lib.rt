@@ -1,4 +1,6 @@
 // The table of contents of a sheet: whether refusal 11 or 12 is due, and what it says of each entry.
+#![tactic(auto)]
+
 ghost use Rattle.std.specs.Prelude.{◌≡◌, ◌+◌, ◌*◌, ◌<◌, ◌≤◌, length, get_or};
 ghost use Rattle.model.specs.Base.{all};
 ghost use Rattle.model.specs.NodeSheet.{entry_at, body_length, entries_of, bodies_end, well_formed, rising, present};
@@ -26,6 +28,7 @@ pub fn entry_count(sheet: &[u8]) -> usize
 }
 
 // The parts of entry i, which lies in the sheet: its node, its reserved byte, its body's length.
+#[tactic(auto, unfolding(model::specs::NodeSheet::entry_at))]
 pub fn node_at(sheet: &[u8], i: usize) -> usize
     requires { 5 + 4 * i ≤ length sheet.now }
     ensures { result ≡ get_or sheet.now (entry_at i) 0 }
@@ -33,6 +36,7 @@ pub fn node_at(sheet: &[u8], i: usize) -> usize
     sheet[ENTRIES + ENTRY * i] as usize
 }
 
+#[tactic(auto, unfolding(model::specs::NodeSheet::entry_at))]
 fn reserved_at(sheet: &[u8], i: usize) -> u8
     requires { 5 + 4 * i ≤ length sheet.now }
     ensures { result ≡ get_or sheet.now (entry_at i + 1) 0 }
@@ -40,6 +44,7 @@ fn reserved_at(sheet: &[u8], i: usize) -> u8
     sheet[ENTRIES + ENTRY * i + RESERVED]
 }
 
+#[tactic(auto, unfolding(model::specs::NodeSheet::body_length, model::specs::NodeSheet::entry_at))]
 pub fn body_length(sheet: &[u8], i: usize) -> usize
     requires { 5 + 4 * i ≤ length sheet.now }
     ensures { (result ≡ body_length sheet.now i) × (result < 65536) }
@@ -64,6 +69,7 @@ fn reserved_clear(sheet: &[u8]) -> bool
 }
 
 // Where the bodies end, if they have the lengths that the entries say.
+#[tactic(auto, unfolding(model::specs::NodeSheet::entry_at))]
 fn bodies_end(sheet: &[u8]) -> usize
     requires { Contents sheet.now }
     ensures { result ≡ bodies_end (get_or sheet.now 0 0) sheet.now 0 (entry_at (get_or sheet.now 0 0)) }

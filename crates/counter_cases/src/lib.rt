@@ -1,4 +1,6 @@
 // A record and an answer in, the record out: which number is raised goes by the case of the answer.
+#![tactic(auto)]
+
 ghost use Rattle.std.specs.Prelude.{◌≡◌};
 ghost use Rattle.model.specs.Counters.{status_counter, turn_taken, turn_status, raised_by, after_turned, after_completed};
 ghost use Rattle.model.specs.declared.Counters.{Counters};

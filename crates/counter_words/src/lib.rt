@@ -1,4 +1,6 @@
 // Which number an answer raises, by what the call returned and the words that it left, whatever they are.
+#![tactic(auto)]
+
 ghost use Rattle.std.specs.Prelude.{◌≡◌};
 ghost use Rattle.model.specs.Counters.{kind_taken, word_counter, kind_status, taken_in, status_in, done_in};
 

@@ -7,6 +7,7 @@ use model::{Counter, Counters};
 // Where a number stays (rule 15.2).
 const MOST: u64 = 18446744073709551615;
 
+#[tactic(auto, unfolding(model::specs::Counters::one_more_of, model::specs::Counters::most))]
 fn one_more(n: u64) -> u64
     ensures { result ≡ one_more_of n }
 {

@@ -1,4 +1,6 @@
 // The decimal reader: what the digits of a text spell.
+#![tactic(auto)]
+
 ghost use Rattle.std.specs.Prelude.{◌≡◌, ◌+◌, ◌*◌, ◌%◌, ◌^◌, ◌<◌, leb, length};
 ghost use Rattle.model.specs.NodeSheet.{digits_of, number_of};
 ghost use Rattle.decimal.specs.Digits.{digits_after};

@@ -1,4 +1,6 @@
 // Decimal digits: one byte of a text, and eight at a time.
+#![tactic(auto)]
+
 ghost use Rattle.std.specs.Prelude.{◌≡◌, true, ◌-◌};
 ghost use Rattle.model.specs.NodeSheet.{is_digit};
 

@@ -1,4 +1,6 @@
 // The first pass over the entries of a list of completions: whether each names a request that is busy, and the marks that stay. It writes nothing.
+#![tactic(auto)]
+
 ghost use Rattle.std.specs.Prelude.{◌≡◌, ◌<◌};
 ghost use Rattle.model.specs.Buffers.{ports};
 ghost use Rattle.model.specs.Complete.{completions_in};

@@ -59,9 +59,9 @@ take_put w i a b c d h =
     (take_at (front ++ a ∷ b ∷ c ∷ d ∷ []) _ (4 * i + 4) (length-append front (a ∷ b ∷ c ∷ d ∷ []) ∙ omega (arith, length-take-le (4 * i) w (omega arith))))
 
 -- zeros put behind the zeros of the places from `from` to i
-pub clear-more : (w₀ w : List ℕ) (from i : ℕ) → from ≤ i → 4 * i + 4 ≤ length w → take (4 * i) w ≡ take (4 * from) w₀ ++ extent_words (i - from) []
+pub clear_more : (w₀ w : List ℕ) (from i : ℕ) → from ≤ i → 4 * i + 4 ≤ length w → take (4 * i) w ≡ take (4 * from) w₀ ++ extent_words (i - from) []
     → take (4 * (i + 1)) (sets w (4 * i) (0 ∷ 0 ∷ 0 ∷ 0 ∷ [])) ≡ take (4 * from) w₀ ++ extent_words (i + 1 - from) []
 unfolding extent_words
-clear-more w₀ w from i h l e =
+clear_more w₀ w from i h l e =
     let j : i + 1 - from ≡ i - from + 1 = omega arith in
     take_put w i 0 0 0 0 l ∙ rw (e, j, words-add (i - from) 1 [] (omega arith)) (append_assoc (take (4 * from) w₀) (extent_words (i - from) []) (extent_words 1 []))

@@ -1,4 +1,6 @@
 // The words of the extents: four to each of eleven places, in the order frame, first sector, number of sectors, disk sector.
+#![tactic(auto)]
+
 ghost use Rattle.std.specs.Prelude.{◌≡◌, [], ◌∷◌, ◌++◌, ◌+◌, ◌*◌, ◌-◌, ◌≤◌, length, take};
 ghost use Rattle.std.proofs.lemmas.List.Edits.{sets};
 ghost use Rattle.model.specs.Checks.{max_segments};
@@ -18,6 +20,7 @@ pub fn put(words: &mut [u64], at: usize, frame: u64, first: u64, len: u64, secto
 }
 
 // Zeros in every place from `from` on.
+#[tactic(auto, using(crate::proofs::Words::clear_more), unfolding(model::specs::Plan::extent_words))]
 pub fn clear_from(words: &mut [u64], from: usize)
     requires { (length words.old ≡ plan_words) × (from ≤ max_segments) }
     ensures { words.new ≡ take (4 * from) words.old ++ extent_words (max_segments - from) [] }

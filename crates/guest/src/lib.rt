@@ -1,4 +1,6 @@
 // The guest's page: what is read of it, and written. In specs/ stands the guest's half as definitions (section 16 of docs/RULES.md).
+#![tactic(auto)]
+
 ghost use Rattle.std.specs.Prelude.{◌≡◌, ◌+◌, ◌≤◌, eqb, length};
 ghost use Rattle.wire.specs.Part.{set_part};
 ghost use Rattle.model.specs.Port.{after};
@@ -19,6 +21,7 @@ fn put_slot(page: &mut [u8], at: usize, slot: &[u8; SLOT_BYTES])
 }
 
 // req_prod is our own number; what the page had there is never read.
+#[tactic(auto, unfolding(model::specs::Ring::set_req_prod))]
 fn put_req_prod(page: &mut [u8], v: u32)
     requires { length page.old ≡ guest_page }
     ensures { page.new ≡ set_req_prod page.old v }
@@ -39,6 +42,7 @@ pub fn publish(page: &mut [u8], i: u32, slot: &[u8; SLOT_BYTES]) -> bool
 }
 
 // rsp_prod: reads its four bytes, once.
+#[tactic(auto, unfolding(model::specs::Ring::rsp_prod))]
 pub fn rsp_prod(page: &[u8]) -> u32
     requires { length page.now ≡ guest_page }
     ensures { result ≡ rsp_prod page.now }
@@ -47,6 +51,7 @@ pub fn rsp_prod(page: &[u8]) -> u32
 }
 
 // rsp_event becomes the index after i, so that the backend notifies us of its next response. Reads nothing.
+#[tactic(auto, unfolding(model::specs::Ring::set_rsp_event))]
 pub fn arm(page: &mut [u8], i: u32)
     requires { length page.old ≡ guest_page }
     ensures { page.new ≡ set_rsp_event page.old (after i) }
@@ -55,6 +60,7 @@ pub fn arm(page: &mut [u8], i: u32)
 }
 
 // Id and operation of the response in the slot of index i: reads its first nine bytes, each once.
+#[tactic(auto, unfolding(model::specs::Ring::response_pair))]
 pub fn response_pair(page: &[u8], i: u32) -> Pair
     requires { length page.now ≡ guest_page }
     ensures { result ≡ response_pair page.now (slot_at guest_ring i) }
@@ -67,6 +73,7 @@ pub fn response_pair(page: &[u8], i: u32) -> Pair
 }
 
 // The 16 bits of its status: reads two bytes, once. No value of them is wrong.
+#[tactic(auto, unfolding(model::specs::Ring::response_status))]
 pub fn response_status(page: &[u8], i: u32) -> u16
     requires { length page.now ≡ guest_page }
     ensures { result ≡ response_status page.now (slot_at guest_ring i) }

@@ -1,4 +1,6 @@
 // The answers of the guest's half as the words and the number that C reads.
+#![tactic(auto)]
+
 ghost use Rattle.std.specs.Prelude.{[], ◌∷◌, ◌≡◌};
 ghost use Rattle.model.specs.Answers.{yes_no, put_number, collected_number, put_left, collected_left};
 

@@ -29,7 +29,7 @@ use Rattle.model.specs.declared.Turned.{Turned}
 use Rattle.model.proofs.Base.{by_cond, clash, and_right}
 use Rattle.model.proofs.Completions.{HeldAs, entries-few, responses-fit, statuses_of}
 use Rattle.model.proofs.Conservation.{Sound, numbers}
-use Rattle.model.proofs.DueFacts.{Chosen, chosen-lt, Started, AnsweredNow, Finished, TurnFacts, CompleteFacts}
+use Rattle.model.proofs.DueFacts.{Chosen, chosen-lt, AnsweredNow, Finished, TurnFacts, CompleteFacts}
 use Rattle.model.proofs.Ledger.{Good, length-answer_to, pairs-answer_to}
 use Rattle.model.proofs.Page.{length-pages_of, pages_of-set_pages, pair-responded}
 use Rattle.model.proofs.Permitted.{view-ring, view-consumed, view-produced, view-in_flight, view-state, chosen-open}

@@ -1,4 +1,6 @@
 // A turn that finds nothing to serve: the req_event of each open port, so that its guest notifies the host of its next request.
+#![tactic(auto)]
+
 ghost use Rattle.std.specs.Prelude.{◌≡◌, ◌<◌, length};
 ghost use Rattle.model.specs.Backend.{view_of};
 ghost use Rattle.model.specs.Buffers.{ports, rings_length};

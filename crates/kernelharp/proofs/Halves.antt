@@ -181,7 +181,7 @@ run-kept k small m w page l h (put request answer o ∷ run) r =
 run-kept k small m w page l h (collect answer o ∷ run) r =
     run-kept k small m o.guest o.page _ (collect-kept k small m w page l h answer o r.0) run r.1
 run-kept k small m w page l h (backend s ∷ run) r =
-    run-kept k small _ w _ _ (backend-kept k small m w page l h s.made s.left r.0 r.1) run r.2
+    run-kept k small (memory_left s.made s.left) w _ _ (backend-kept k small m w page l h s.made s.left r.0 r.1) run r.2
 
 -- ---- from the opening
 
@@ -197,7 +197,7 @@ before-run k m h w (s ∷ run) r y n =
     let b = before-step k (backend_of m) h (call_of s.made) y.0 n.0 w in
     let next : Before k (backend_of (memory_left s.made s.left)) (event_of s ∷ h) =
     subst₂ (λ (x : Backend) (e : Event). Before k x (e ∷ h)) (after-due m s.made s.left r.0) (event-due m s.made s.left r.0) b in
-    before-run k _ _ next run r.1 y.1 n.1
+    before-run k (memory_left s.made s.left) _ next run r.1 y.1 n.1
 
 module _ (k : ℕ) (before : List Step) (sheet : List ℕ) (m : List ℕ) (o : Left) (r : Promise m (kh_open k sheet) o) where
   opened-shown : opened k (backend_of m) (history_of before) sheet ≡ shown o.memory guest_zeros zero_page (opened_log k before sheet o)

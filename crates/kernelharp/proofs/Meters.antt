@@ -141,9 +141,9 @@ run-counted : (first : Records) (m : List ℕ) (h : List Act) (r : Records) → 
     → All (λ s. WishBytes (wish_of s)) host → (k : ℕ) → KeptWell k (first k) (acts_after h host) → Counted k (acts_after h host) (records_after r host k)
 run-counted first m h r known [] run y = known.counted
 run-counted first m h r known (unmetered s ∷ host) run y =
-    run-counted first _ _ r (known-unmetered first m h r known s y.0 run.0) host run.1 y.1
+    run-counted first (memory_left s.made s.left) _ r (known-unmetered first m h r known s y.0 run.0) host run.1 y.1
 run-counted first m h r known (metered s j left ∷ host) run y =
-    run-counted first _ _ _ (known-metered first m h r known s j left y.0 run.0 run.1) host run.2 y.1
+    run-counted first (memory_left s.made s.left) _ _ (known-metered first m h r known s j left y.0 run.0 run.1) host run.2 y.1
 run-counted first m h r known (zeroing j ∷ host) run y = run-counted first m _ _ (known-zeroed first m h r known j) host run y.1
 
 none-known : (r : Records) → Known r zeros [] r

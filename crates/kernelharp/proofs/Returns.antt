@@ -125,3 +125,7 @@ collect-returned w page answer left bytes r n written p h = record {
   guest_due = p.guest_due;
   words = p.words ∙ ap (collect_words_left w) p.answered;
 }
+
+-- ---- as the functions' proofs name them
+
+pub ruleset returns = (returned, turn-returned, list-returned, many-returned, put-returned, collect-returned)

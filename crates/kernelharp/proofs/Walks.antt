@@ -10,8 +10,8 @@ use mathlib.Core.Path.{◌≡◌, refl, sym, ap, subst}
 use Prim.Native.Nat.{ℕ, ◌<◌, ◌^◌}
 use mathlib.Core.List.{[], ◌∷◌, ◌++◌, List}
 use seplogic.Ra.Ura.{Ura}
-use seplogic.Ra.TreeShare.{full_share}
-use mir.Syntax.{Name, Fn, Body, Place, Opd as Operand, named, w32, call, seq}
+use base.Fraction.{full_share}
+use mir.Syntax.{Callee, Fn, Body, Place, Opd as Operand, named, w32, w64, call, seq}
 use mir.Val.{Val, vunit, vint, vptr}
 use base.Logic.{SProp, ent, sep, emp, via, fst∗, snd∗, ex_e, id⊢}
 use base.Fml.{Fml, GName, Lft, Share, ftrue, flft, fres}
@@ -27,9 +27,10 @@ use types.Tokens.{lft_new, lft_end}
 use sound.WpLaws.{FmC, WpFn-mono}
 use denote.RattleType.{RattleType, owns}
 use denote.Laws.{Is, Tells}
-use denote.Plain.{Nothing, uint_Makes, uint_vals, uint_Tells}
+use denote.Array.{Array-row_laws}
+use denote.Plain.{Nothing, uint_row_laws, uint_Makes, uint_vals, uint_Tells}
 use denote.Builtin.{u32, u64, unit, Array, ArrayOf, RefOf, RefMutOf}
-use denote.Ref.{Bor, MutBor, MutRef, ShrRef, shr_vals, mut_Tells, shr_Tells, shr_copy}
+use denote.Ref.{Bor, MutBor, MutRef, ShrRef, mut_vals, shr_vals, mut_Tells, shr_Tells, shr_copy}
 use denote.Lend.{LentAgain, lends_again, comes_back}
 use denote.Signature.{Signature, Slot, plain}
 use denote.Steps.{only, owned, heard, nothing}
@@ -118,6 +119,9 @@ module _ {M : Type 1} {𝓤 : Ura M} (𝓛 : Logic 𝓤) where
 abbrev at : {X : Type 0} → Bor X → Val
 at x = vptr x.ref_ptr.0 x.ref_ptr.1
 
+abbrev at_mut : {X : Type 0} → MutBor X → Val
+at_mut x = vptr x.ref_ptr.0 x.ref_ptr.1
+
 -- the record of r, at c, and the answer of s
 abbrev meter : Lft → MutBor Counters → Counters → Fml
 meter κ r c = lent κ r.ref_ptr.0 r.ref_ptr.1 r.ghost_name c
@@ -125,14 +129,14 @@ meter κ r c = lent κ r.ref_ptr.0 r.ref_ptr.1 r.ghost_name c
 abbrev answer : ℕ → Lft → Bor (List ℕ) → Fml
 answer n κ s = (ShrRef (named 1) κ (Array u64 tt n)).own_val s (at s ∷ [])
 
-abbrev pub Has : {M : Type 1} (𝓤 : Ura M) → ℕ → Lft → Lft → Share → Share → Bor Counters → Bor (List ℕ) → Counters → List (Item 𝓤)
+abbrev pub Has : {M : Type 1} (𝓤 : Ura M) → ℕ → Lft → Lft → Share → Share → MutBor Counters → Bor (List ℕ) → Counters → List (Item 𝓤)
 Has 𝓤 n κ κ' q q' r s c = ‵ (flft κ' q') ∷ ‵ (answer n κ' s) ∷ ‵ (meter κ r c) ∷ ‵ (flft κ q) ∷ []
 
-module _ {M : Type 1} {𝓤 : Ura M} (𝓛 : Logic 𝓤) (n : ℕ) (metered : Metered) (κ κ' : Lft) (q q' : Share) (r : Bor Counters) (number : ℕ) (s : Bor (List ℕ)) where
+module _ {M : Type 1} {𝓤 : Ura M} (𝓛 : Logic 𝓤) (n : ℕ) (metered : Metered) (κ κ' : Lft) (q q' : Share) (r : MutBor Counters) (number : ℕ) (s : Bor (List ℕ)) where
   open 𝓛 use {H}
 
   abbrev bound : (walk_of 𝓛 (ended n) (stayed n) (clauses 𝓤 n metered)).Ghost
-  bound = (((κ, (κ', tt)), (q, (q', tt)), tt, (r, (number, (s, tt))), (at r ∷ [], (vint w32 number ∷ [], (at s ∷ [], tt)))), tt)
+  bound = (((κ, (κ', tt)), (q, (q', tt)), tt, (r, (number, (s, tt))), (at_mut r ∷ [], (vint w32 number ∷ [], (at s ∷ [], tt)))), tt)
 
   abbrev Post : Val → SProp 𝓤
   Post = (walk_of 𝓛 (ended n) (stayed n) (clauses 𝓤 n metered)).post bound
@@ -160,7 +164,7 @@ module _ {M : Type 1} {𝓤 : Ura M} (𝓛 : Logic 𝓤) (n : ℕ) (metered : Me
 -- ---- the calls
 
 module _ {M : Type 1} {𝓤 : Ura M} {𝓛 : Logic 𝓤} {K : Type 0} {Γ : List (Item 𝓤)} {E : Env 𝓤 𝓛.H} {C : Calls 𝓤 𝓛.H} {Λ : Loops 𝓤 𝓛.H} {post : Kit.Post 𝓤 𝓛.H}
-    {f : Name} {xs : List Operand} {d : Place} {rest : Body} where
+    {f : Callee} {xs : List Operand} {d : Place} {rest : Body} where
   -- a call that is handed a copy of the answer, so that the walk keeps it, and gives y, of the type S
   open 𝓛 use {H, A}
 
@@ -170,7 +174,7 @@ module _ {M : Type 1} {𝓤 : Ura M} {𝓛 : Logic 𝓤} {K : Type 0} {Γ : List
       → (Is S y (value y ∷ []) → Seq K 𝓛 (‵ (flft κ q) ∷ ‵ (answer n κ s) ∷ Γ) (lands C Λ E d (value y) rest post))
       → Seq K 𝓛 (‵ (flft κ q) ∷ ‵ (answer n κ s) ∷ Γ) (runs C Λ E (seq (call f xs d) rest) post)
   reads t fm n c known x {κ} {q} s asked operands S value tells said y leaves says k =
-      move t (1 ∷ []) $ use1 𝓛 (‵ (answer n κ s) ⊛ ‵ (answer n κ s)) ((shr_copy 𝓛 (named 1) κ (Array u64 tt n)).twice s (at s ∷ [])) $ split t $
+      move t (1 ∷ []) $ use1 𝓛 (‵ (answer n κ s) ⊛ ‵ (answer n κ s)) ((shr_copy 𝓛 (named 1) κ (Array u64 tt n) (Array-row_laws u64 (uint_row_laws w64) n)).twice s (at s ∷ [])) $ split t $
       -- [the answer; the answer; its token; Γ]
       move t (0 ∷ 2 ∷ []) $ use2 𝓛 (raw (c.pre x)) asked $
       gives t fm c known x (operands _ _) S value tells (‵ (flft κ q) ⊛ ‵ ftrue) said y leaves says (λ good. split t $ move t (1 ∷ []) $ drop t $ k good)
@@ -198,7 +202,7 @@ module _ {M : Type 1} {𝓤 : Ura M} {𝓛 : Logic 𝓤} {K : Type 0} {Γ : List
       (λ z. ex_e 𝓤 _ (λ ws. snd∗ 𝓤 (sem 𝓛 (lasts (metering n) (κ, tt) (c, (number, (s, tt))) ws)) (fact 𝓤 (z ≡ metered number s.now c))))
 
   pub raises : K → FmC 𝓤 H 𝓛.laws C → (mem : Memory → SProp 𝓤) (run : Routine → Fun 𝓤) → Triple 𝓤 (C f) (Raise 𝓛 mem run)
-      → {κ : Lft} {q : Share} (r : MutBor Counters) (c : Counters) (which : Counter) → GoodTag which → ((i j : Item 𝓤) → Opds K 𝓛 (i ∷ j ∷ Γ) E xs (at r ∷ tag which ∷ []))
+      → {κ : Lft} {q : Share} (r : MutBor Counters) (c : Counters) (which : Counter) → GoodTag which → ((i j : Item 𝓤) → Opds K 𝓛 (i ∷ j ∷ Γ) E xs (at_mut r ∷ tag which ∷ []))
       → Step K 𝓛 (‵ (meter κ r (raised_by which c)) ∷ ‵ (flft κ q) ∷ Γ) (lands C Λ E d vunit rest post) (‵ (meter κ r c) ∷ ‵ (flft κ q) ∷ Γ) (runs C Λ E (seq (call f xs d) rest) post)
   raises t fm mem run known {κ} {q} r c which good operands = step (λ k. lft_new t tt (λ ν. move t (1 ∷ 2 ∷ []) $
       use2 𝓛 (later (some (λ (δ : GName). ‵ (relent ν δ) ⊛ ‵ (LentAgain R.the_row κ (ν ∷ []) q r.ghost_name r.ref_ptr.0 r.ref_ptr.1 δ c))))
@@ -207,8 +211,8 @@ module _ {M : Type 1} {𝓤 : Ura M} {𝓛 : Logic 𝓤} {K : Type 0} {Γ : List
       move t (2 ∷ 0 ∷ []) $ use2 𝓛 (raw ((Raise 𝓛 mem run).pre (call_at ν δ))) (asked ν δ) $ calls_at t fm (Raise 𝓛 mem run) known (call_at ν δ) (operands _ _) (λ w.
       use1 𝓛 (later (some (λ (u : Unit {0}). ((‵ (flft (ν ∷ []) full_share) ⊛ ‵ ftrue) ⊛ ‵ (Nothing.own_val u (w ∷ []))) ⊛ raw (ensured 𝓛 raise.ended (raise.clauses 𝓛 mem run) (ν ∷ [], tt) (again δ, (which, tt)) tt u)))) (id⊢ 𝓤 _) $
       await t tt $ pick t (λ u. split t $ move t (1 ∷ []) $
-      use1 𝓛 (some (λ (ws : Counters × (Unit {0} × Unit {0})). ‵ (lasts raise.ended (ν ∷ [], tt) (again δ, (which, tt)) ws) ⊛ raw (fact 𝓤 (ws.0 ≡ raised_by which c)))) (id⊢ 𝓤 _) $ pick t (λ ws.
-      split t $ move t (1 ∷ []) $ heard t (ws.0 ≡ raised_by which c) (λ e. fsplit t $ rewrite t 0 (λ (z : Counters). ‵ (fres δ ((R.the_row).coded.code z))) e refl $
+      use1 𝓛 (some (λ (ws : Counters × (Unit {0} × Unit {0})). ‵ (lasts raise.ended (ν ∷ [], tt) (again δ, (which, tt)) ws) ⊛ raw (fact 𝓤 (ws.0 ≡ raised_by which c)))) (id⊢ 𝓤 _) $ pick t (λ (ws : Counters × (Unit {0} × Unit {0})).
+      split t $ move t (1 ∷ []) $ heard t (ws.0 ≡ raised_by which c) (λ e. fsplit t $ fsplit t $ move t (1 ∷ []) $ drop t $ rewrite t 0 (λ (z : Counters). ‵ (fres δ ((R.the_row).coded.code z))) e refl $
       -- [the last value of the record lent; true; the token and the result; what is kept of the record; Γ]
       move t (2 ∷ []) $ split t $ move t (1 ∷ []) $ feq_l t (λ unit-is. split t $ lft_end t tt $ move t (0 ∷ 4 ∷ 2 ∷ []) $
       use3 𝓛 (later (‵ (meter κ r (raised_by which c)) ⊛ ‵ (flft κ q))) (comes_back 𝓛 R.the_row (named 0) κ (ν ∷ []) q r.ghost_name r.ref_ptr.0 r.ref_ptr.1 δ c (raised_by which c)) $ await t tt $ split t $
@@ -223,7 +227,7 @@ module _ {M : Type 1} {𝓤 : Ura M} {𝓛 : Logic 𝓤} {K : Type 0} {Γ : List
       relent ν δ = lent (ν ∷ []) r.ref_ptr.0 r.ref_ptr.1 δ c
 
       call_at : ℕ → GName → (Raise 𝓛 mem run).Ghost
-      call_at ν δ = (((ν ∷ [], tt), (full_share, tt), tt, (again δ, (which, tt)), (at r ∷ [], (tag which ∷ [], tt))), tt)
+      call_at ν δ = (((ν ∷ [], tt), (full_share, tt), tt, (again δ, (which, tt)), (at_mut r ∷ [], (tag which ∷ [], tt))), tt)
 
       asked : (ν : ℕ) (δ : GName) → ent 𝓤 (sep 𝓤 (A.lft (ν ∷ []) full_share) (sem 𝓛 (relent ν δ))) ((Raise 𝓛 mem run).pre (call_at ν δ))
       asked ν δ =
@@ -236,8 +240,8 @@ module _ {M : Type 1} {𝓤 : Ura M} (𝓛 : Logic 𝓤) where
   open 𝓛 use {H}
 
   abbrev pub Walk : Calls 𝓤 H → Loops 𝓤 H → Fn → ℕ → Metered → Type 1
-  Walk C Λ function n metered = (κ κ' : Lft) (q q' : Share) (r : Bor Counters) (number : ℕ) → number < 2 ^ 32 → (s : Bor (List ℕ))
-      → ent 𝓤 (⋆ 𝓛 (Has 𝓤 n κ κ' q q' r s r.now)) (WpFn 𝓤 H C Λ function (at r ∷ vint w32 number ∷ at s ∷ []) (Post 𝓛 n metered κ κ' q q' r number s))
+  Walk C Λ function n metered = (κ κ' : Lft) (q q' : Share) (r : MutBor Counters) (number : ℕ) → number < 2 ^ 32 → (s : Bor (List ℕ))
+      → ent 𝓤 (⋆ 𝓛 (Has 𝓤 n κ κ' q q' r s r.now)) (WpFn 𝓤 H C Λ function (at_mut r ∷ vint w32 number ∷ at s ∷ []) (Post 𝓛 n metered κ κ' q q' r number s))
 
   module _ where
     -- c is the generated contract, and `refl` shows it
@@ -247,7 +251,7 @@ module _ {M : Type 1} {𝓤 : Ura M} (𝓛 : Logic 𝓤) where
         (walk_Meets 𝓛 (ended n) (stayed n)
         (Goes-ref 𝓛 2 0 tt (plain (λ _. R.the_row)), (Goes-none 𝓛 2 (λ _. u32) yes (λ κs x f. refl), (Goes-none_ref 𝓛 2 (1 ∷ []) tt (WordsOf n) yes, tt)))
         (clauses 𝓤 n metered) (WpFn 𝓤 H 𝓣.C 𝓣.Λ function) (WpFn-mono 𝓤 H 𝓛.laws 𝓣 function)
-        (walked 𝓛 (ended n) (stayed n) (clauses 𝓤 n metered) (WpFn 𝓤 H 𝓣.C 𝓣.Λ function) (λ κs. (shr_vals, (uint_vals w32, (shr_vals, tt))))
+        (walked 𝓛 (ended n) (stayed n) (clauses 𝓤 n metered) (WpFn 𝓤 H 𝓣.C 𝓣.Λ function) (λ κs. (mut_vals, (uint_vals w32, (shr_vals, tt))))
         (λ κs. (mut_Tells (named 0) κs.0 R.the_row, (uint_Tells w32, (shr_Tells (named 1) κs.1.0 (Array u64 tt n), tt))))
         (λ κs qs bounds a g are. via 𝓤 _ (fst∗ 𝓤 _ (emp 𝓤)) (via 𝓤 _ (enters 𝓛 n metered κs.0 κs.1.0 qs.0 qs.1.0 a.0 a.1.0 a.1.1.0)
         (walk κs.0 κs.1.0 qs.0 qs.1.0 a.0 a.1.0 are.1.0.1 a.1.1.0)))))

@@ -5,6 +5,7 @@ use guest_answers::put_collected;
 use model::buffer::{COLLECT_WORDS, GUEST_WORDS};
 
 #[unsafe(no_mangle)]
+#[tactic(auto, using(crate::proofs::Returns::returns))]
 pub extern "C" fn kh_guest_collect(
     guest: &mut [u64; GUEST_WORDS],
     page: &mut [u8],

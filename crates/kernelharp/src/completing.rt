@@ -7,6 +7,7 @@ use model::buffer::DONE_WORDS;
 use model::{PortId, Serial, TagId};
 
 #[unsafe(no_mangle)]
+#[tactic(auto, using(crate::proofs::Returns::returns))]
 pub extern "C" fn kh_complete(
     memory: &mut [u64; WORDS],
     rings: &mut [u8],

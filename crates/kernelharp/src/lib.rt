@@ -1,5 +1,7 @@
 // The C interface, as include/kernelharp.h declares it: a file to a call. Each function is one call of the library, with its answer written out as words; none
 // asks anything of its arguments.
+#![tactic(auto)]
+
 ghost use Rattle.std.specs.Prelude.{◌≡◌};
 ghost use Rattle.outstanding.specs.Words.{guest_words};
 ghost use Rattle.memory.specs.Layout.{memory_words};

@@ -9,6 +9,7 @@ use model::buffer::MANY_WORDS;
 use model::limit::ENTRY_WORDS;
 
 #[unsafe(no_mangle)]
+#[tactic(auto, using(crate::proofs::Returns::returns))]
 pub extern "C" fn kh_complete_many(
     memory: &mut [u64; WORDS],
     rings: &mut [u8],

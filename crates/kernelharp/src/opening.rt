@@ -6,6 +6,7 @@ use memory::WORDS;
 use model::PortId;
 
 #[unsafe(no_mangle)]
+#[tactic(auto, using(crate::proofs::Returns::returns))]
 pub extern "C" fn kh_open(memory: &mut [u64; WORDS], port: u32, sheet: &[u8]) -> u32
     ensures { Promise memory.old (kh_open port sheet.now) (record { number = result; memory = memory.new }) }
 {

@@ -5,6 +5,7 @@ use guest_answers::put_put;
 use model::buffer::{GUEST_WORDS, PUT_WORDS, REQUEST_WORDS};
 
 #[unsafe(no_mangle)]
+#[tactic(auto, using(crate::proofs::Returns::returns))]
 pub extern "C" fn kh_guest_put(
     guest: &mut [u64; GUEST_WORDS],
     page: &mut [u8],

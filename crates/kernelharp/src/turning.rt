@@ -6,6 +6,7 @@ use model::buffer::TURN_WORDS;
 use turn_answers::put_turned;
 
 #[unsafe(no_mangle)]
+#[tactic(auto, using(crate::proofs::Returns::returns))]
 pub extern "C" fn kh_turn(
     memory: &mut [u64; WORDS],
     rings: &mut [u8],

@@ -1,5 +1,7 @@
 // The numbers of a guest's ring: its header, its slots, the fields of a request and of a response (section 2 of docs/RULES.md), by the guest's layout and the
 // ring's pages.
+#![tactic(auto, unfolding(model::specs::Ring::ring_for))]
+
 ghost use Rattle.std.specs.Prelude.{◌≡◌, ◌+◌, ◌*◌, ◌<◌, ◌≤◌, ltb};
 ghost use Rattle.model.specs.Buffers.{ring_share};
 ghost use Rattle.model.specs.Checks.{max_segments};

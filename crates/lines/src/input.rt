@@ -1,12 +1,11 @@
 // Lines, and the decimal numbers in them, as what a call takes. In a line, what is no digit only parts the numbers.
 ghost use Rattle.std.specs.Prelude.{◌≤◌, length};
-ghost use Rattle.io.specs.Counts.{IsPrefixLen};
 
 // A line has at most so many.
 pub const NUMBERS: usize = 256;
 
 // A number, and where the line goes on behind it.
-#[derive(Drop)]
+#[derive(Clone, Copy)]
 struct Read {
     value: u64,
     next: usize,
@@ -15,7 +14,8 @@ struct Read {
 // Where the byte first stands in the text, from a place on; the text's length where it does not.
 pub fn find(text: &[u8], from: usize, byte: u8) -> usize
     requires { from ≤ length text.now }
-    ensures { (from ≤ result) × IsPrefixLen result text.now }
+    ensures from_there { from ≤ result }
+    ensures within { result ≤ length text.now }
 {
     let mut i = from;
     while i < text.len() {
@@ -68,7 +68,8 @@ fn number(line: &[u8], from: usize) -> Read {
 
 // The numbers of a line, each also as a byte; returns how many there are, at most as many as there are places for.
 pub fn numbers(line: &[u8], words: &mut [u64], bytes: &mut [u8]) -> usize
-    ensures { IsPrefixLen result words.new × IsPrefixLen result bytes.new }
+    ensures as_words { result ≤ length words.new }
+    ensures as_bytes { result ≤ length bytes.new }
 {
     let mut at: usize = 0;
     let mut i: usize = 0;
@@ -96,7 +97,7 @@ pub fn narrow(n: u64) -> u32 {
 
 // A length, cut to what there is to lend.
 pub fn within(n: u64, lent: &[u8]) -> usize
-    ensures { IsPrefixLen result lent.now }
+    ensures { result ≤ length lent.now }
 {
     let count = n as usize;
     if lent.len() < count {

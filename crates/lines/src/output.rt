@@ -1,191 +1,201 @@
 // Answers, as text.
 use completion_answers::many::MANY_STATUSES;
-use libc::STDOUT_FILENO;
 use model::buffer::{MANY_WORDS, RINGS_BYTES, TURN_EXTENTS, TURN_WORDS};
 use model::limit::{EXTENT_WORDS, MOST_COMPLETIONS, PLAN_WORDS};
 use model::{
     Completed, CompletedMany, Counters, Plan, PortId, Reply, Serial, Status, TagId, Turned,
 };
+use std::io;
+use std::io::Write;
 
-pub fn text(s: &[u8]) {
-    io::write_all(STDOUT_FILENO, s);
+pub fn text<W: Write>(out: &mut W, s: &[u8]) -> io::Result<()> {
+    out.write_all(s)
 }
 
 // A number behind a blank.
-fn word(w: u64) {
-    text(b" ");
-    io::print_decimal(STDOUT_FILENO, w);
+fn word<W: Write>(out: &mut W, w: u64) -> io::Result<()> {
+    write!(out, " {w}")
 }
 
-fn status(s: Status) {
+fn status<W: Write>(out: &mut W, s: Status) -> io::Result<()> {
     match s {
-        Status::Okay => text(b" status 0"),
-        Status::Error => text(b" status -1"),
-        Status::NotSupported => text(b" status -2"),
+        Status::Okay => text(out, b" status 0"),
+        Status::Error => text(out, b" status -1"),
+        Status::NotSupported => text(out, b" status -2"),
     }
 }
 
-fn notify(yes: bool) {
+fn notify<W: Write>(out: &mut W, yes: bool) -> io::Result<()> {
     if yes {
-        text(b" notify");
+        text(out, b" notify")?;
     }
+    Ok(())
 }
 
-fn refused(n: u32) {
-    text(b" refused");
-    word(n as u64);
+fn refused<W: Write>(out: &mut W, n: u32) -> io::Result<()> {
+    text(out, b" refused")?;
+    word(out, n as u64)
 }
 
 // The words of n extents, and those of unused places where one is not zero.
-fn extents(answer: &[u64; TURN_WORDS], n: u64) {
-    let mut i: usize = 0;
-    while i < PLAN_WORDS {
+fn extents<W: Write>(out: &mut W, answer: &[u64; TURN_WORDS], n: u64) -> io::Result<()> {
+    for i in 0..PLAN_WORDS {
         if ((i / EXTENT_WORDS) as u64) < n || answer[TURN_EXTENTS + i] != 0 {
             if i % EXTENT_WORDS == 0 {
-                text(b" |");
+                text(out, b" |")?;
             }
-            word(answer[TURN_EXTENTS + i]);
+            word(out, answer[TURN_EXTENTS + i])?;
         }
-        i += 1;
     }
+    Ok(())
 }
 
-fn plan(p: Plan) {
-    text(b" operation");
-    word(p.operation as u64);
-    text(b" start");
-    word(p.start);
-    text(b" count");
-    word(p.count);
+fn plan<W: Write>(out: &mut W, p: Plan) -> io::Result<()> {
+    text(out, b" operation")?;
+    word(out, p.operation as u64)?;
+    text(out, b" start")?;
+    word(out, p.start)?;
+    text(out, b" count")?;
+    word(out, p.count)?;
     if p.secure {
-        text(b" secure");
+        text(out, b" secure")?;
     }
-    text(b" extents");
-    word(p.extents);
+    text(out, b" extents")?;
+    word(out, p.extents)
 }
 
-fn started(port: PortId, tag: TagId, serial: Serial) {
-    text(b" started port");
-    word(port.0 as u64);
-    text(b" tag");
-    word(tag.0 as u64);
-    text(b" serial");
-    word(serial.0 as u64);
+fn started<W: Write>(out: &mut W, port: PortId, tag: TagId, serial: Serial) -> io::Result<()> {
+    text(out, b" started port")?;
+    word(out, port.0 as u64)?;
+    text(out, b" tag")?;
+    word(out, tag.0 as u64)?;
+    text(out, b" serial")?;
+    word(out, serial.0 as u64)
 }
 
-fn answered(port: PortId, reason: u32, s: Status, yes: bool) {
-    text(b" answered port");
-    word(port.0 as u64);
-    text(b" reason");
-    word(reason as u64);
-    status(s);
-    notify(yes);
+fn answered<W: Write>(
+    out: &mut W,
+    port: PortId,
+    reason: u32,
+    s: Status,
+    yes: bool,
+) -> io::Result<()> {
+    text(out, b" answered port")?;
+    word(out, port.0 as u64)?;
+    text(out, b" reason")?;
+    word(out, reason as u64)?;
+    status(out, s)?;
+    notify(out, yes)
 }
 
 // The answer of open and close.
-pub fn reply(r: Reply) {
+pub fn reply<W: Write>(out: &mut W, r: Reply) -> io::Result<()> {
     match r {
-        Reply::Refused(n) => refused(n),
-        Reply::Done => text(b" done"),
+        Reply::Refused(n) => refused(out, n),
+        Reply::Done => text(out, b" done"),
     }
 }
 
 // The answer of a turn, with the extents that it leaves. A refused turn leaves them as they were, and shows none.
-pub fn turned(t: Turned, answer: &[u64; TURN_WORDS]) {
+pub fn turned<W: Write>(out: &mut W, t: Turned, answer: &[u64; TURN_WORDS]) -> io::Result<()> {
     match t {
-        Turned::Refused(n) => refused(n),
+        Turned::Refused(n) => refused(out, n),
         Turned::Idle => {
-            text(b" idle");
-            extents(answer, 0);
+            text(out, b" idle")?;
+            extents(out, answer, 0)
         }
         Turned::Overrun(port) => {
-            text(b" overrun port");
-            word(port.0 as u64);
-            extents(answer, 0);
+            text(out, b" overrun port")?;
+            word(out, port.0 as u64)?;
+            extents(out, answer, 0)
         }
         Turned::Started(port, tag, serial, p) => {
             let n = p.extents;
-            started(port, tag, serial);
-            plan(p);
-            extents(answer, n);
+            started(out, port, tag, serial)?;
+            plan(out, p)?;
+            extents(out, answer, n)
         }
         Turned::Answered(port, reason, s, yes) => {
-            answered(port, reason, s, yes);
-            extents(answer, 0);
+            answered(out, port, reason, s, yes)?;
+            extents(out, answer, 0)
         }
     }
 }
 
 // The answer of a completion.
-pub fn completed(c: Completed) {
+pub fn completed<W: Write>(out: &mut W, c: Completed) -> io::Result<()> {
     match c {
-        Completed::Refused(n) => refused(n),
+        Completed::Refused(n) => refused(out, n),
         Completed::Done(port, s, yes) => {
-            text(b" done port");
-            word(port.0 as u64);
-            status(s);
-            notify(yes);
+            text(out, b" done port")?;
+            word(out, port.0 as u64)?;
+            status(out, s)?;
+            notify(out, yes)
         }
     }
 }
 
 // A status of a list, by its word without the sign. One that no entry has shows only where it is not zero.
-fn status_word(s: u64, counts: bool) {
+fn status_word<W: Write>(out: &mut W, s: u64, counts: bool) -> io::Result<()> {
     if s != 0 {
-        text(b" -");
-        io::print_decimal(STDOUT_FILENO, s);
-        return;
+        return write!(out, " -{s}");
     }
     if counts {
-        text(b" 0");
+        text(out, b" 0")?;
     }
+    Ok(())
 }
 
 // The statuses of a list of n entries.
-fn statuses(answer: &[u64; MANY_WORDS], n: usize) {
-    let mut i: usize = 0;
-    while i < MOST_COMPLETIONS {
-        status_word(answer[MANY_STATUSES + i], i < n);
-        i += 1;
+fn statuses<W: Write>(out: &mut W, answer: &[u64; MANY_WORDS], n: usize) -> io::Result<()> {
+    for i in 0..MOST_COMPLETIONS {
+        status_word(out, answer[MANY_STATUSES + i], i < n)?;
     }
+    Ok(())
 }
 
 // The answer to a list of so many completions, with its statuses.
-pub fn listed(c: CompletedMany, answer: &[u64; MANY_WORDS], count: usize) {
+pub fn listed<W: Write>(
+    out: &mut W,
+    c: CompletedMany,
+    answer: &[u64; MANY_WORDS],
+    count: usize,
+) -> io::Result<()> {
     match c {
-        CompletedMany::Refused(n) => refused(n),
+        CompletedMany::Refused(n) => refused(out, n),
         CompletedMany::Done(_, yes) => {
-            text(b" done");
-            statuses(answer, count);
-            notify(yes);
+            text(out, b" done")?;
+            statuses(out, answer, count)?;
+            notify(out, yes)
         }
     }
 }
 
 // A ring byte and its place.
-fn byte(place: usize, b: u8) {
-    word(place as u64);
-    text(b":");
-    io::print_decimal(STDOUT_FILENO, b as u64);
+fn byte<W: Write>(out: &mut W, place: usize, b: u8) -> io::Result<()> {
+    write!(out, " {place}:{b}")
 }
 
 // Each ring byte that differs from what was shown last; from then on it counts as shown.
-pub fn changed(shown: &mut [u8; RINGS_BYTES], rings: &[u8; RINGS_BYTES]) {
-    let mut i: usize = 0;
-    while i < RINGS_BYTES {
+pub fn changed<W: Write>(
+    out: &mut W,
+    shown: &mut [u8; RINGS_BYTES],
+    rings: &[u8; RINGS_BYTES],
+) -> io::Result<()> {
+    for i in 0..RINGS_BYTES {
         let b = rings[i];
         if shown[i] != b {
-            byte(i, b);
+            byte(out, i, b)?;
             shown[i] = b;
         }
-        i += 1;
     }
+    Ok(())
 }
 
 // The four numbers.
-pub fn counters(c: Counters) {
-    word(c.taken);
-    word(c.okay);
-    word(c.error);
-    word(c.unsupported);
+pub fn counters<W: Write>(out: &mut W, c: Counters) -> io::Result<()> {
+    word(out, c.taken)?;
+    word(out, c.okay)?;
+    word(out, c.error)?;
+    word(out, c.unsupported)
 }

@@ -1,3 +1,4 @@
 pub mod Lists
 pub mod Passes
 pub mod Ways
+pub mod Rest

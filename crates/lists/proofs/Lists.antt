@@ -1,8 +1,8 @@
 -- A list of completions, taken entry by entry: what the second pass comes to is what the rules say of the list as a whole. Assumes nothing.
-use mathlib.Core.Path.{◌≡◌, refl, sym, ap, ◌∙◌, subst}
+use mathlib.Core.Path.{◌≡◌, refl, sym, ap, ◌∙◌}
 use mathlib.Core.Logic.{◌≢◌}
-use mathlib.Core.Bool.{Bool, true, false, cond, ◌&&◌}
-use mathlib.Core.List.{List, [], ◌∷◌, map}
+use mathlib.Core.Bool.{Bool, true, false, cond}
+use mathlib.Core.List.{List, [], ◌∷◌}
 use Prim.Native.Nat.{ℕ, suc, ◌+◌, ◌<◌}
 use native.Mathlib.Decide.{ℕ_discrete}
 use native.Mathlib.Nat.{mod-lt}
@@ -13,7 +13,7 @@ use borrow.Author.Tests.{eqb-true, eq-eqb, ne_eqb}
 use Rattle.model.specs.Backend.{Backend, with_port, with_tag, finished_port, does, does_all}
 use Rattle.model.specs.Base.{modulus}
 use Rattle.model.specs.Complete.{Completion, response_for, responses_for}
-use Rattle.model.specs.Deeds.{finishing, finishings}
+use Rattle.model.specs.Deeds.{finishings}
 use Rattle.model.specs.Port.{Holder, held, is_free, tag_of, zero_tag, clear_busy, further, after}
 use Rattle.model.specs.Ring.{Ring}
 use Rattle.model.specs.Rules.{any_names_none, named_twice}
@@ -21,7 +21,7 @@ use Rattle.model.specs.declared.Port.{Port}
 use Rattle.model.specs.declared.Status.{Status}
 use Rattle.model.specs.declared.Tag.{Tag}
 use Rattle.model.proofs.Base.{clash}
-use Rattle.model.proofs.Completions.{Head, head, freed, freed-names, freed-responses}
+use Rattle.model.proofs.Completions.{head, freed, freed-names, freed-responses}
 use Rattle.entries.proofs.FirstPass.{cleared}
 use Rattle.lists.specs.List.{due_for, responses_along, emptied, port_with}
 

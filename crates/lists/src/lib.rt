@@ -1,5 +1,7 @@
 // Completing a list of started requests of one port: all of them, or none. Two passes over the entries: the first (`entries`) reads what they name and writes nothing, the
 // second answers them. rsp_prod is stored once, behind the last response, and rsp_event read once, after that.
+#![tactic(auto)]
+
 ghost use Rattle.std.specs.Prelude.{◌≡◌, ◌*◌, ◌/◌, ◌%◌, ◌<◌, ◌≤◌, length};
 ghost use Rattle.model.specs.Buffers.{ports};
 ghost use Rattle.model.specs.Calls.{most_completions};

@@ -1,4 +1,6 @@
 // The marks of a port's busy tags: one word, a bit to a tag. How many requests they leave room for.
+#![tactic(auto)]
+
 ghost use Rattle.std.specs.Prelude.{◌≡◌, true, false, not, ◌+◌, ◌<◌, ◌≤◌, leb, ltb};
 ghost use Rattle.model.specs.Base.{least};
 ghost use Rattle.model.specs.Port.{busy_bits, is_busy, set_busy, clear_busy, in_flight_of};

@@ -7,6 +7,8 @@
 //
 // Reading is total: no content of the words is wrong. Callers see the backend that the words say (specs/Backend.antt), and no word; only `records`, which has the
 // port whole and the tags, reads words.
+#![tactic(auto)]
+
 ghost use Rattle.std.specs.Prelude.{◌≡◌, ◌<◌};
 ghost use Rattle.model.specs.Buffers.{ports};
 ghost use Rattle.model.specs.Backend.{with_pointer};
@@ -41,6 +43,7 @@ pub const WORDS: usize = POINTER + 1;
 const PORT_COUNT: u64 = PORTS as u64;
 
 // The port that a turn looks at first.
+#[tactic(auto, unfolding(crate::specs::Backend::backend_of, crate::specs::Words::pointer_at))]
 pub fn pointer(m: &[u64; WORDS]) -> usize
     ensures { (result ≡ (backend_of m.now).pointer) × (result < ports) }
 {

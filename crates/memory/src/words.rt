@@ -19,6 +19,7 @@ pub fn known(m: &[u64; WORDS])
 }
 
 // Word q of port k.
+#[tactic(auto, unfolding(crate::specs::Words::word))]
 pub fn word(m: &[u64; WORDS], k: usize, q: usize) -> u64
     requires { (k < ports) × (q < stride) }
     ensures { result ≡ word_at m.now k q }
@@ -26,6 +27,7 @@ pub fn word(m: &[u64; WORDS], k: usize, q: usize) -> u64
     m[STRIDE * k + q]
 }
 
+#[tactic(auto, unfolding(crate::specs::Words::set_word))]
 pub fn put_word(m: &mut [u64; WORDS], k: usize, q: usize, v: u64)
     requires { (k < ports) × (q < stride) }
     ensures { m.new ≡ set_word m.old k q v }

@@ -2,32 +2,30 @@
 -- nothing.
 use mathlib.Core.Path.{◌≡◌, refl, sym, ap, subst, ◌∙◌}
 use mathlib.Core.Logic.{◌≢◌}
-use mathlib.Core.Bool.{Bool, true, false, not, cond, ◌||◌}
+use mathlib.Core.Bool.{true, false, cond}
 use mathlib.Core.List.{List, [], ◌∷◌, map}
 use Prim.Native.Nat.{ℕ, zero, suc, ◌/◌, ◌≤◌, ◌<◌}
 use native.Mathlib.Decide.{ℕ_discrete}
-use native.Mathlib.Nat.{le_refl}
 use native.Mathlib.Omega.{arith}
 use lib.Dec.{eqb, leb}
 use lib.ListN.{length, length-map}
 use borrow.Author.Tests.{leb-false, eqb-true, eqb-false, eq-eqb, ne_eqb, not-false}
 use Rattle.model.specs.Buffers.{ports, pages_of}
 use Rattle.model.specs.Ring.{Ring}
-use Rattle.model.specs.Port.{is_closed, Holder, free, held, is_free, tag_of}
+use Rattle.model.specs.Port.{is_closed, Holder, free, held, tag_of}
 use Rattle.model.specs.Turn.{ResponseDue}
 use Rattle.model.specs.Complete.{Completion, entry_words, completions_from, completions_in, response_for, responses_for}
 use Rattle.model.specs.Rules.{names_none, any_names_none, any_names, named_twice}
 use Rattle.model.specs.Deeds.{finishing, finishings}
 use Rattle.model.specs.History.{Response, Taken, Book, ring_in, said, answer_to, entry, unfinished, holder, pairs_of}
-use Rattle.model.specs.Demand.{count}
 use Rattle.model.specs.declared.Serial.{Serial}
 use Rattle.model.specs.declared.Status.{Status}
 use Rattle.model.specs.declared.Tag.{Tag}
 use Rattle.model.specs.declared.TagId.{TagId}
-use Rattle.model.proofs.Base.{clash, or_left, or_right, tally-le}
+use Rattle.model.proofs.Base.{clash, or_left, or_right}
 use Rattle.model.proofs.Ring.{Fits, fits}
 use Rattle.model.proofs.Order.{count-all}
-use Rattle.model.proofs.Ledger.{Good, held-count, held_fits, busy, Marked, marked}
+use Rattle.model.proofs.Ledger.{Good, held_fits, Marked, marked}
 use Rattle.model.proofs.Responses.{AllRead, AllFit}
 use Rattle.model.proofs.Conservation.{Sound, MayFinish, MayAll, sound-post}
 

@@ -16,7 +16,7 @@ use Rattle.model.specs.Turn.{ResponseDue, written, responded_all, responded_all_
 use Rattle.model.specs.declared.Pair.{Pair}
 use Rattle.model.specs.declared.Status.{Status}
 use Rattle.model.proofs.Ring.{Fits, slot_at-modulus, slot_at-header, slots_apart}
-use Rattle.model.proofs.Page.{FitsPair, length-responded, pair-responded, status-responded, get_d-responded, bytes-responded}
+use Rattle.model.proofs.Page.{FitsPair, length-responded, pair-responded, status-responded, get_d-responded}
 
 -- ---- one by one
 

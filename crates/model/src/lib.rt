@@ -1,4 +1,5 @@
 // The types that every layer shares. What they mean, and all the rules, stand in specs/.
+#![tactic(auto)]
 
 pub mod buffer;
 pub mod grant;
@@ -10,33 +11,33 @@ pub mod refusal;
 pub mod result;
 
 // A port's number, as the host hands it in: any u32, 0 to 7 are ports (rules 1.1 and 7.2).
-#[derive(Drop)]
+#[derive(Clone, Copy)]
 pub struct PortId(pub u32);
 
 // The number of a tag (ticket): a started request's place in its port (rule 4.7).
-#[derive(Drop)]
+#[derive(Clone, Copy)]
 pub struct TagId(pub u32);
 
 // The request index that a started request was taken at (rule 5.21).
-#[derive(Drop)]
+#[derive(Clone, Copy)]
 pub struct Serial(pub u32);
 
 // How a guest lays out requests and responses (rule 1.16).
-#[derive(Drop)]
+#[derive(Clone, Copy)]
 pub enum Abi {
     Bits64,
     Bits32,
 }
 
 // How many pages a guest's ring has (rule 2.3).
-#[derive(Drop)]
+#[derive(Clone, Copy)]
 pub enum Pages {
     One,
     Two,
 }
 
 // The disk's sector size, in bytes (rule 3.5).
-#[derive(Drop)]
+#[derive(Clone, Copy)]
 pub enum SectorSize {
     Bytes512,
     Bytes1024,
@@ -45,7 +46,7 @@ pub enum SectorSize {
 }
 
 // What a node sheet says of a port (rule 3.5).
-#[derive(Drop)]
+#[derive(Clone, Copy)]
 pub struct Params {
     pub writable: bool,
     pub barrier: bool,
@@ -59,7 +60,7 @@ pub struct Params {
 }
 
 // What the decimal digits of a body spell (rules 3.7 and 3.8).
-#[derive(Drop)]
+#[derive(Clone, Copy)]
 pub enum Number {
     Value(u64),
     TooBig,
@@ -67,21 +68,21 @@ pub enum Number {
 }
 
 // What a body of the sheet comes to: a value, or the number of its refusal (rule 3.9).
-#[derive(Drop)]
+#[derive(Clone, Copy)]
 pub enum Body {
     Value(u64),
     Refused(u32),
 }
 
 // What a whole sheet comes to: a port's params, or the number of its refusal (rule 3.10).
-#[derive(Drop)]
+#[derive(Clone, Copy)]
 pub enum Sheet {
     Read(Params),
     Refused(u32),
 }
 
 // What a port can be (rule 4.1).
-#[derive(Drop)]
+#[derive(Clone, Copy)]
 pub enum State {
     Closed,
     Open,
@@ -89,7 +90,7 @@ pub enum State {
 }
 
 // A port. consumed is ring.h's req_cons (taken, C), produced its rsp_prod_pvt (answered, R) (rule 4.2); busy has a mark for each tag (rule 4.7).
-#[derive(Drop)]
+#[derive(Clone, Copy)]
 pub struct Port {
     pub state: State,
     pub params: Params,
@@ -99,14 +100,14 @@ pub struct Port {
 }
 
 // What a guest tells its requests apart by (rule 12.12).
-#[derive(Drop)]
+#[derive(Clone, Copy)]
 pub struct Pair {
     pub id: u64,
     pub operation: u8,
 }
 
 // What a tag keeps of a started request until it is completed (rule 5.20).
-#[derive(Drop)]
+#[derive(Clone, Copy)]
 pub struct Tag {
     pub pair: Pair,
     pub serial: Serial,
@@ -114,7 +115,7 @@ pub struct Tag {
 }
 
 // What a port's req_prod says (rule 4.12).
-#[derive(Drop)]
+#[derive(Clone, Copy)]
 pub enum Pending {
     Nothing,
     Waits,
@@ -122,7 +123,7 @@ pub enum Pending {
 }
 
 // One segment of a request: sectors first to last of a frame (rules 2.6 and 2.7).
-#[derive(Drop)]
+#[derive(Clone, Copy)]
 pub struct Segment {
     pub frame: u32,
     pub first: u8,
@@ -130,7 +131,7 @@ pub struct Segment {
 }
 
 // The status of a response (rule 2.12).
-#[derive(Drop)]
+#[derive(Clone, Copy)]
 pub enum Status {
     Okay,
     Error,
@@ -138,7 +139,7 @@ pub enum Status {
 }
 
 // What the host is to do (rule 5.22; operation is the plan's kind). Its extents stand beside it, in words that the caller lends (rule 5.33).
-#[derive(Drop)]
+#[derive(Clone, Copy)]
 pub struct Plan {
     pub operation: u8,
     pub start: u64,
@@ -148,28 +149,28 @@ pub struct Plan {
 }
 
 // What checks say of a request: it passes them all, or the number of the first that it fails, with the status due (rule 8.2).
-#[derive(Drop)]
+#[derive(Clone, Copy)]
 pub enum Checked {
     Passed,
     Refused(u32, Status),
 }
 
 // What all the checks say: a refusal, or the request's plan (rule 5.19).
-#[derive(Drop)]
+#[derive(Clone, Copy)]
 pub enum Verdict {
     Refused(u32, Status),
     Start(Plan),
 }
 
 // The answer of open and close (rule 11.4).
-#[derive(Drop)]
+#[derive(Clone, Copy)]
 pub enum Reply {
     Refused(u32),
     Done,
 }
 
 // The answer of a turn (rule 11.4).
-#[derive(Drop)]
+#[derive(Clone, Copy)]
 pub enum Turned {
     Refused(u32),
     Idle,
@@ -180,28 +181,28 @@ pub enum Turned {
 }
 
 // The answer of a completion (rule 6.13).
-#[derive(Drop)]
+#[derive(Clone, Copy)]
 pub enum Completed {
     Refused(u32),
     Done(PortId, Status, bool),
 }
 
 // The answer of a list of completions. Its statuses stand beside it, in words that the caller lends (rules 6.22 and 14.15).
-#[derive(Drop)]
+#[derive(Clone, Copy)]
 pub enum CompletedMany {
     Refused(u32),
     Done(PortId, bool),
 }
 
 // The answer of the guest's putting: whether to notify the backend (rule 16.9).
-#[derive(Drop)]
+#[derive(Clone, Copy)]
 pub enum Put {
     Refused(u32),
     Done(bool),
 }
 
 // The answer of the guest's collecting: the id and operation of a response, and the 16 bits of its status (rule 16.14).
-#[derive(Drop)]
+#[derive(Clone, Copy)]
 pub enum Collected {
     Refused(u32),
     Nothing,
@@ -210,7 +211,7 @@ pub enum Collected {
 
 // A port's counters (meter): requests taken, and answers by their status (rule 15.1). The host's record, laid out as in C.
 #[repr(C)]
-#[derive(Drop)]
+#[derive(Clone, Copy)]
 pub struct Counters {
     pub taken: u64,
     pub okay: u64,
@@ -219,7 +220,7 @@ pub struct Counters {
 }
 
 // One of them, or none (rule 15.4).
-#[derive(Drop)]
+#[derive(Clone, Copy)]
 pub enum Counter {
     Taken,
     Okay,

@@ -40,6 +40,7 @@ fn fault_of(body: Body) -> Fault
 }
 
 // The body of entry i, which begins at a place of the sheet.
+#[tactic(auto, unfolding(wire::specs::Part::part))]
 fn body_at(sheet: &[u8], i: usize, at: usize) -> Body
     requires { (5 + 4 * i ≤ length sheet.now) × (at + body_length sheet.now i ≤ length sheet.now) }
     ensures { result ≡ body_of (get_or sheet.now (entry_at i) 0) (part (body_length sheet.now i) sheet.now at) }
@@ -49,6 +50,7 @@ fn body_at(sheet: &[u8], i: usize, at: usize) -> Body
 }
 
 // Each body is read once, in place. The nodes rise, so no value is stored over another.
+#[tactic(auto, unfolding(model::specs::NodeSheet::entry_at))]
 pub fn read_bodies(sheet: &[u8]) -> Bodies
     requires { Readable sheet.now }
     ensures { BodiesRead (entries_of sheet.now) result }

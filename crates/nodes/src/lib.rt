@@ -1,5 +1,7 @@
 // The node sheet: what it says of a port, or the number that it is refused with.
 // The sheet is read in place and in one pass over its bodies; the table of contents, at most 9 entries, is walked more than once.
+#![tactic(auto)]
+
 ghost use Rattle.std.specs.Prelude.{◌≡◌, get_or};
 ghost use Rattle.model.specs.NodeSheet.{entries_of, sector_size_of, abi_for, pages_for, params_of, has_required, sheet_of};
 ghost use Rattle.contents.specs.Contents.{Contents};
@@ -51,6 +53,7 @@ fn pages_for(v: u64) -> Pages
 }
 
 // What the values of the nodes say of a port.
+#[tactic(auto, unfolding(model::specs::NodeSheet::params_of))]
 fn params_of(values: [u64; PLACES]) -> Params
     ensures { result ≡ params_of (λ node. get_or values node 0) }
 {
@@ -68,6 +71,7 @@ fn params_of(values: [u64; PLACES]) -> Params
 }
 
 // Whether the nodes that must be present are.
+#[tactic(auto, unfolding(model::specs::NodeSheet::has_required))]
 fn has_required(sheet: &[u8]) -> bool
     requires { Contents sheet.now }
     ensures { result ≡ has_required (entries_of sheet.now) }

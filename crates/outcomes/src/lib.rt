@@ -1,4 +1,6 @@
 // What serving a port comes to: the port broken by an overrun, or one request started, or one answered at once.
+#![tactic(auto)]
+
 ghost use Rattle.std.specs.Prelude.{◌≡◌, ◌^◌, ◌<◌, length};
 ghost use Rattle.model.specs.Buffers.{ports, rings_length};
 ghost use Rattle.model.specs.Complete.{expected_of};

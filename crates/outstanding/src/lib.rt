@@ -1,6 +1,8 @@
 // A guest's memory: its two indices, and its outstanding requests. Reading is total: no content of the words is wrong (rule 16.16).
 //
 // 0 put · 1 collected · 2 how many are outstanding · from IDS their ids · from OPERATIONS their operations
+#![tactic(auto)]
+
 ghost use Rattle.std.specs.Prelude.{◌≡◌, ◌<◌, ◌≤◌, length};
 ghost use Rattle.guest.specs.Guest.{most_outstanding, place_of, has, same_id, same_pair};
 ghost use Rattle.outstanding.specs.Words.{guest_words, pair_at, guest_of, set_pair, words_put, words_ended};
@@ -35,6 +37,7 @@ pub fn known(w: &[u64; GUEST_WORDS])
 }
 
 // The index of the next request.
+#[tactic(auto, unfolding(crate::specs::Words::guest_of))]
 pub fn put_index(w: &[u64; GUEST_WORDS]) -> u32
     ensures { result ≡ (guest_of w.now).put }
 {
@@ -42,6 +45,7 @@ pub fn put_index(w: &[u64; GUEST_WORDS]) -> u32
 }
 
 // The index of the next response.
+#[tactic(auto, unfolding(crate::specs::Words::guest_of))]
 pub fn collect_index(w: &[u64; GUEST_WORDS]) -> u32
     ensures { result ≡ (guest_of w.now).collected }
 {
@@ -75,6 +79,7 @@ pub fn has_id(w: &[u64; GUEST_WORDS], id: u64) -> bool
 }
 
 // Whether the one at place i has this id and operation.
+#[tactic(auto, unfolding(crate::specs::Words::pair_at))]
 fn is_pair(w: &[u64; GUEST_WORDS], i: usize, pair: Pair) -> bool
     requires { i < most_outstanding }
     ensures { result ≡ same_pair pair (pair_at w.now i) }
@@ -100,6 +105,7 @@ pub fn place_of(w: &[u64; GUEST_WORDS], pair: Pair) -> usize
     n
 }
 
+#[tactic(auto, unfolding(crate::specs::Words::set_pair))]
 fn set_pair(w: &mut [u64; GUEST_WORDS], i: usize, id: u64, operation: u64)
     requires { i < most_outstanding }
     ensures { w.new ≡ set_pair w.old i (record { id = id; operation = operation }) }

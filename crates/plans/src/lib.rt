@@ -1,4 +1,6 @@
 // What a verdict says: a refusal with its status, the plan of each kind of request, and a discard's secure mark.
+#![tactic(auto)]
+
 ghost use Rattle.std.specs.Prelude.{◌&&◌, ◌≡◌, ◌%◌, eqb, length};
 ghost use Rattle.model.specs.Plan.{plan_words, no_words};
 ghost use Rattle.model.specs.declared.Verdict.{Verdict as Judgement};

@@ -1,5 +1,7 @@
 // The publishing of responses that stand in their slots, one or several, and whether to notify the guest.
 // Of guest bytes it reads rsp_event alone, once: `publish`.
+#![tactic(auto)]
+
 ghost use Rattle.std.specs.Prelude.{◌≡◌, ◌≤◌, length};
 ghost use Rattle.wire.specs.LittleEndian.{store};
 ghost use Rattle.model.specs.Ring.{header_size, rsp_prod_at};

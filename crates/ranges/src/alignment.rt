@@ -32,6 +32,7 @@ fn are_zero(x: u64, y: u64) -> bool
 }
 
 // Whether two numbers are multiples of that: a range's start and count, or a segment's two ends. Each sector size divides by a constant, so no divisor can be 0.
+#[tactic(auto, unfolding(model::specs::Checks::is_aligned))]
 pub fn are_aligned(sector: SectorSize, x: u64, y: u64) -> bool
     ensures { result ≡ is_aligned sector x && is_aligned sector y }
 {

@@ -7,6 +7,7 @@ use model::reason::{PAST_END, UNALIGNED};
 use model::{Checked, Status};
 
 // Whether the range ends past the last sector. Found by a difference: a sum of start and count could wrap.
+#[tactic(auto, unfolding(model::specs::Checks::past_end))]
 fn is_past(params: model::Params, start: u64, count: u64) -> bool
     ensures { result ≡ past_end params start count }
 {
@@ -19,6 +20,7 @@ fn is_past(params: model::Params, start: u64, count: u64) -> bool
 
 // 28 and 29 of a range alone, without segments. On a disk of 512-byte sectors every number of sectors is whole; and what keeps to the largest sector size keeps to
 // all, which spares a look at which it is.
+#[tactic(auto, unfolding(model::specs::Checks::disk_checks, model::specs::Checks::unaligned, model::specs::Checks::is_aligned, model::specs::Base::all))]
 pub fn check_range(params: model::Params, start: u64, count: u64) -> Checked
     ensures { result ≡ first_failed (disk_checks params start count []) }
 {

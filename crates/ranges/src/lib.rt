@@ -1,4 +1,6 @@
 // The checks of a request's range on the disk: 28 and 29. And what 29 asks of any two numbers.
+#![tactic(auto)]
+
 mod alignment;
 mod disk_range;
 

@@ -23,11 +23,14 @@
 // as `meter` with the numbers taken, okay, error and not supported.
 //
 // Only safety is proved here: that each answer is right is proved in `turn` and `backend`.
+#![tactic(auto)]
+
 mod meters;
+
+ghost use Rattle.std.specs.Prelude.{◌≤◌, length};
 
 use crate::meters::METERS;
 use completion_answers::put_many;
-use libc::STDIN_FILENO;
 use lines::input::NUMBERS;
 use lines::{input, output};
 use memory::WORDS;
@@ -36,6 +39,8 @@ use model::buffer::{
 };
 use model::limit::ENTRY_WORDS;
 use model::{PortId, Serial, TagId};
+use std::io;
+use std::io::{Read, Write};
 
 // The buffers' numbers, as a line has them.
 const PORT_COUNT: u64 = PORTS as u64;
@@ -47,6 +52,9 @@ const LENT_RINGS: u64 = RINGS_BYTES as u64;
 const GRANT_PLACES: u64 = PORT_GRANTS as u64;
 
 const LENT_GRANTS: u64 = GRANTS_BYTES as u64;
+
+// As much of the input is read.
+const TEXT_BYTES: usize = 65536;
 
 // A byte at a place, where there is room; returns the place behind it.
 fn put_byte(room: &mut [u8], at: usize, byte: u8) -> usize {
@@ -91,50 +99,58 @@ fn grant(grants: &mut [u8; GRANTS_BYTES], c: &[u64; NUMBERS], bytes: &[u8]) {
 }
 
 // The sheet stands behind the port.
-fn open(memory: &mut [u64; WORDS], c: &[u64; NUMBERS], bytes: &[u8]) {
-    output::text(b"open");
+fn open<W: Write>(
+    out: &mut W,
+    memory: &mut [u64; WORDS],
+    c: &[u64; NUMBERS],
+    bytes: &[u8],
+) -> io::Result<()> {
+    output::text(out, b"open")?;
     if bytes.len() < 1 {
-        return;
+        return Ok(());
     }
     let answer = backend::open(memory, PortId(input::narrow(c[0])), &bytes[1..]);
-    output::reply(answer);
+    output::reply(out, answer)
 }
 
-fn close(memory: &mut [u64; WORDS], c: &[u64; NUMBERS]) {
-    output::text(b"close");
+fn close<W: Write>(out: &mut W, memory: &mut [u64; WORDS], c: &[u64; NUMBERS]) -> io::Result<()> {
+    output::text(out, b"close")?;
     let answer = backend::close(memory, PortId(input::narrow(c[0])));
-    output::reply(answer);
+    output::reply(out, answer)
 }
 
 // A turn that is lent the first r bytes of the rings and the first g of the grants. The words are filled with ones first, so that a word that is not
 // cleared would show.
-fn take_turn(
+fn take_turn<W: Write>(
+    out: &mut W,
     memory: &mut [u64; WORDS],
     rings: &mut [u8],
     grants: &[u8],
     meters: &mut [u64; METERS],
     r: u64,
     g: u64,
-) {
-    output::text(b"turn");
+) -> io::Result<()> {
+    output::text(out, b"turn")?;
     let mut answer = [1u64; TURN_WORDS];
     let lent = input::within(r, rings);
     let granted = input::within(g, grants);
     let turned = turn::turn(memory, &mut rings[..lent], &grants[..granted], &mut answer);
-    output::turned(turned, &answer);
+    output::turned(out, turned, &answer)?;
     meters::after_turn(meters, turned);
+    Ok(())
 }
 
 // A completion that is lent the first r bytes of the rings.
-fn complete(
+fn complete<W: Write>(
+    out: &mut W,
     memory: &mut [u64; WORDS],
     rings: &mut [u8],
     meters: &mut [u64; METERS],
     r: u64,
     names: [u64; 3],
     res: i32,
-) {
-    output::text(b"complete");
+) -> io::Result<()> {
+    output::text(out, b"complete")?;
     let lent = input::within(r, rings);
     let answer = completion::complete(
         memory,
@@ -144,20 +160,22 @@ fn complete(
         Serial(input::narrow(names[2])),
         res,
     );
-    output::completed(answer);
+    output::completed(out, answer)?;
     meters::after_completion(meters, answer);
+    Ok(())
 }
 
 // A list of completions that is lent the first r bytes of the rings. The words of the answer are filled with ones first, as those of a turn are.
-fn complete_list(
+fn complete_list<W: Write>(
+    out: &mut W,
     memory: &mut [u64; WORDS],
     rings: &mut [u8],
     meters: &mut [u64; METERS],
     r: u64,
     port: u64,
     entries: &[u64],
-) {
-    output::text(b"list");
+) -> io::Result<()> {
+    output::text(out, b"list")?;
     let mut answer = [1u64; MANY_WORDS];
     let lent = input::within(r, rings);
     let count = entries.len() / ENTRY_WORDS;
@@ -169,42 +187,53 @@ fn complete_list(
         &mut answer,
     );
     let returned = put_many(&mut answer, completed, count);
-    output::listed(completed, &answer, count);
+    output::listed(out, completed, &answer, count)?;
     meters::after_many(meters, port, returned, &answer);
+    Ok(())
 }
 
 // A list by its line, whose numbers these are.
-fn list_line(
+fn list_line<W: Write>(
+    out: &mut W,
     memory: &mut [u64; WORDS],
     rings: &mut [u8; RINGS_BYTES],
     meters: &mut [u64; METERS],
     letter: u8,
     words: &[u64],
-) {
+) -> io::Result<()> {
     if words.len() < 1 {
-        return;
+        return Ok(());
     }
     if letter == b'l' {
-        complete_list(memory, rings, meters, LENT_RINGS, words[0], &words[1..]);
-        return;
+        return complete_list(
+            out,
+            memory,
+            rings,
+            meters,
+            LENT_RINGS,
+            words[0],
+            &words[1..],
+        );
     }
     if words.len() < 2 {
-        return;
+        return Ok(());
     }
-    complete_list(memory, rings, meters, words[0], words[1], &words[2..]);
+    complete_list(out, memory, rings, meters, words[0], words[1], &words[2..])
 }
 
 // A completion by its line, with all of the rings lent or with as many bytes as it says.
-fn complete_line(
+fn complete_line<W: Write>(
+    out: &mut W,
     memory: &mut [u64; WORDS],
     rings: &mut [u8; RINGS_BYTES],
     meters: &mut [u64; METERS],
     letter: u8,
     c: &[u64; NUMBERS],
     negative: bool,
-) {
+) -> io::Result<()> {
     if letter == b'f' {
-        complete(
+        return complete(
+            out,
             memory,
             rings,
             meters,
@@ -212,22 +241,24 @@ fn complete_line(
             [c[0], c[1], c[2]],
             input::signed(c[3], negative),
         );
-        return;
     }
     if letter == b'F' {
         complete(
+            out,
             memory,
             rings,
             meters,
             c[0],
             [c[1], c[2], c[3]],
             input::signed(c[4], negative),
-        );
+        )?;
     }
+    Ok(())
 }
 
 // A call but open, or a look at counters.
-fn call(
+fn call<W: Write>(
+    out: &mut W,
     memory: &mut [u64; WORDS],
     rings: &mut [u8; RINGS_BYTES],
     grants: &[u8; GRANTS_BYTES],
@@ -235,28 +266,25 @@ fn call(
     letter: u8,
     c: &[u64; NUMBERS],
     negative: bool,
-) {
+) -> io::Result<()> {
     if letter == b'c' {
-        close(memory, c);
-        return;
+        return close(out, memory, c);
     }
     if letter == b't' {
-        take_turn(memory, rings, grants, meters, LENT_RINGS, LENT_GRANTS);
-        return;
+        return take_turn(out, memory, rings, grants, meters, LENT_RINGS, LENT_GRANTS);
     }
     if letter == b'T' {
-        take_turn(memory, rings, grants, meters, c[0], c[1]);
-        return;
+        return take_turn(out, memory, rings, grants, meters, c[0], c[1]);
     }
     if letter == b'm' {
-        meters::show(meters, c[0]);
-        return;
+        return meters::show(out, meters, c[0]);
     }
-    complete_line(memory, rings, meters, letter, c, negative);
+    complete_line(out, memory, rings, meters, letter, c, negative)
 }
 
 // A line that is no comment. Only a result can be negative, so a minus sign anywhere is its own.
-fn run_line(
+fn run_line<W: Write>(
+    out: &mut W,
     memory: &mut [u64; WORDS],
     rings: &mut [u8; RINGS_BYTES],
     shown: &mut [u8; RINGS_BYTES],
@@ -264,57 +292,57 @@ fn run_line(
     meters: &mut [u64; METERS],
     line: &[u8],
     letter: u8,
-) {
+) -> io::Result<()> {
     let mut c = [0u64; NUMBERS];
     let mut bytes = [0u8; NUMBERS];
     let n = input::numbers(line, &mut c, &mut bytes);
     if letter == b'b' {
         guest(rings, shown, &c, &bytes[..n]);
-        return;
+        return Ok(());
     }
     if letter == b'g' {
         grant(grants, &c, &bytes[..n]);
-        return;
+        return Ok(());
     }
     if letter == b'z' {
         meters::zero(meters, c[0]);
-        return;
+        return Ok(());
     }
     if letter == b'o' {
-        open(memory, &c, &bytes[..n]);
+        open(out, memory, &c, &bytes[..n])?;
     } else if letter == b'l' || letter == b'L' {
-        list_line(memory, rings, meters, letter, &c[..n]);
+        list_line(out, memory, rings, meters, letter, &c[..n])?;
     } else {
         let negative = input::find(line, 0, b'-') < line.len();
-        call(memory, rings, grants, meters, letter, &c, negative);
+        call(out, memory, rings, grants, meters, letter, &c, negative)?;
     }
-    output::changed(shown, rings);
-    output::text(b"\n");
+    output::changed(out, shown, rings)?;
+    output::text(out, b"\n")
 }
 
 // A line of the input. An empty one says nothing.
-fn read_line(
+fn read_line<W: Write>(
+    out: &mut W,
     memory: &mut [u64; WORDS],
     rings: &mut [u8; RINGS_BYTES],
     shown: &mut [u8; RINGS_BYTES],
     grants: &mut [u8; GRANTS_BYTES],
     meters: &mut [u64; METERS],
     line: &[u8],
-) {
+) -> io::Result<()> {
     if line.len() == 0 {
-        return;
+        return Ok(());
     }
     let letter = line[0];
     if letter == b'#' {
-        output::text(line);
-        output::text(b"\n");
-        return;
+        output::text(out, line)?;
+        return output::text(out, b"\n");
     }
-    run_line(memory, rings, shown, grants, meters, line, letter);
+    run_line(out, memory, rings, shown, grants, meters, line, letter)
 }
 
 // Every line of the input, from the empty backend; a last one without its end only where the input ends there.
-fn run(text: &[u8], is_whole: bool) {
+fn run<W: Write>(out: &mut W, text: &[u8], is_whole: bool) -> io::Result<()> {
     let mut memory = [0u64; WORDS];
     let mut rings = [0u8; RINGS_BYTES];
     let mut shown = [0u8; RINGS_BYTES];
@@ -325,24 +353,45 @@ fn run(text: &[u8], is_whole: bool) {
         let end = input::find(text, at, b'\n');
         if is_whole || end < text.len() {
             read_line(
+                out,
                 &mut memory,
                 &mut rings,
                 &mut shown,
                 &mut grants,
                 &mut meters,
                 &text[at..end],
-            );
+            )?;
         }
         at = end + 1;
     }
+    Ok(())
 }
 
-fn main() {
-    let mut text = io::large_buffer();
-    let n = io::read_full(STDIN_FILENO, &mut text);
-    let is_whole = n < text.len();
-    run(&text[..n], is_whole);
-    if !is_whole {
-        output::text(b"cut: no more than 65,536 bytes are read\n");
+// Reads until the buffer is full, the input ends or a read fails; returns how many bytes there are.
+fn read_full<R: Read>(input: &mut R, buffer: &mut [u8]) -> usize
+    ensures { result ≤ length buffer.new }
+{
+    let mut done = 0;
+    while done < buffer.len() {
+        let Ok(count) = input.read(&mut buffer[done..]) else {
+            break;
+        };
+        if count == 0 {
+            break;
+        }
+        done += count;
     }
+    done
+}
+
+fn main(rt: HostRuntime) -> io::Result<()> {
+    let mut text = [0u8; TEXT_BYTES];
+    let n = read_full(&mut rt.reader(), &mut text);
+    let is_whole = n < text.len();
+    let mut out = io::writer(&rt);
+    run(&mut out, &text[..n], is_whole)?;
+    if !is_whole {
+        output::text(&mut out, b"cut: no more than 65,536 bytes are read\n")?;
+    }
+    Ok(())
 }

@@ -4,6 +4,8 @@ ghost use Rattle.std.specs.Prelude.{◌+◌, ◌≤◌};
 use lines::output;
 use model::buffer::{MANY_WORDS, PORTS};
 use model::{Completed, Counters, Turned};
+use std::io;
+use std::io::Write;
 
 const PORT_COUNT: u64 = PORTS as u64;
 
@@ -79,9 +81,9 @@ pub fn after_many(
     put_counters(meters, at, after);
 }
 
-pub fn show(meters: &[u64; METERS], port: u64) {
-    output::text(b"meter");
-    output::counters(counters_at(meters, place(port)));
+pub fn show<W: Write>(out: &mut W, meters: &[u64; METERS], port: u64) -> io::Result<()> {
+    output::text(out, b"meter")?;
+    output::counters(out, counters_at(meters, place(port)))
 }
 
 pub fn zero(meters: &mut [u64; METERS], port: u64) {

@@ -1,3 +1,4 @@
+pub mod Asked
 pub mod Expected
 pub mod WholeSectors
 pub mod FlagIgnored

@@ -1,5 +1,7 @@
 // One request, judged: the checks 21 to 29 over the copy of its slot, and the plan of a request that passes them.
 // Only the copy is read, so nothing that a guest writes meanwhile can change a field between its check and its use.
+#![tactic(auto)]
+
 ghost use Rattle.std.specs.Prelude.{◌≡◌, length};
 ghost use Rattle.model.specs.Buffers.{grant_share};
 ghost use Rattle.model.specs.Plan.{plan_words};
@@ -13,6 +15,7 @@ use plans::{start_empty, status_of};
 use verdicts::{data, discard};
 
 // What the guest tells this request apart by: its id and operation.
+#[tactic(auto, unfolding(model::specs::Ring::request_of))]
 pub fn pair_of(slot: &[u8; SLOT_BYTES]) -> model::Pair
     ensures { result ≡ (request_in slot.now).pair }
 {
@@ -23,6 +26,7 @@ pub fn pair_of(slot: &[u8; SLOT_BYTES]) -> model::Pair
 }
 
 // The verdict on the request in a slot's copy, and in `words` its extents: four words to each, zero where there is none.
+#[tactic(auto, using(crate::proofs::Asked::asked_no, crate::proofs::Asked::asked_empty))]
 pub fn judge(params: Params, slot: &[u8; SLOT_BYTES], grants: &[u8], words: &mut [u64]) -> Verdict
     requires { (length grants.now ≡ grant_share) × (length words.old ≡ plan_words) }
     ensures { Judged params grants.now slot.now result words.new }

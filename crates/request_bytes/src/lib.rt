@@ -1,4 +1,6 @@
 // A request's slot: all 112 bytes, built apart from the page.
+#![tactic(auto)]
+
 ghost use Rattle.std.specs.Prelude.{cond, ◌≡◌, ◌<◌, ◌≤◌, length};
 ghost use Rattle.wire.specs.LittleEndian.{store};
 ghost use Rattle.model.specs.Checks.{max_segments, moves_nothing};
@@ -17,6 +19,7 @@ use layout::{
 use model::buffer::REQUEST_WORDS;
 
 // The low byte of v goes to i.
+#[tactic(auto, unfolding(wire::specs::LittleEndian::store))]
 fn put_byte(slot: &mut [u8], i: usize, v: u64)
     requires { i < length slot.old }
     ensures { slot.new ≡ store 1 slot.old i v }
@@ -25,6 +28,7 @@ fn put_byte(slot: &mut [u8], i: usize, v: u64)
 }
 
 // Zeros, but for operation, count or flag, id and start.
+#[tactic(auto, unfolding(asking::specs::Slot::head_of))]
 fn head(operation: u64, second: u64, id: u64, start: u64) -> [u8; SLOT_BYTES]
     ensures { result ≡ head_of (record { id = id; operation = operation }) second start }
 {
@@ -36,6 +40,7 @@ fn head(operation: u64, second: u64, id: u64, start: u64) -> [u8; SLOT_BYTES]
     slot
 }
 
+#[tactic(auto, unfolding(asking::specs::Slot::set_segment))]
 fn put_segment(slot: &mut [u8], i: usize, frame: u64, first: u64, last: u64)
     requires { (i < max_segments) × (length slot.old ≡ slot_bytes) }
     ensures { slot.new ≡ set_segment slot.old i (record { frame = frame; first = first; last = last }) }
@@ -76,6 +81,7 @@ fn start_of(request: &[u64; REQUEST_WORDS]) -> u64
 }
 
 // Of the flag only bit 0 is put.
+#[tactic(auto, unfolding(asking::specs::Slot::discard_slot, asking::specs::Request::request_in))]
 pub fn discard_slot(request: &[u64; REQUEST_WORDS]) -> [u8; SLOT_BYTES]
     ensures { result ≡ discard_slot (request_in request.now) }
 {
@@ -89,6 +95,7 @@ pub fn discard_slot(request: &[u64; REQUEST_WORDS]) -> [u8; SLOT_BYTES]
     slot
 }
 
+#[tactic(auto, unfolding(asking::specs::Slot::segments_slot, asking::specs::Request::request_in))]
 pub fn segments_slot(request: &[u64; REQUEST_WORDS]) -> [u8; SLOT_BYTES]
     requires { (request_in request.now).n ≤ max_segments }
     ensures { result ≡ segments_slot (request_in request.now) }

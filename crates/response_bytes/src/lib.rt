@@ -1,4 +1,6 @@
 // The bytes of a response, in the slot of our own index. Of guest bytes it reads none.
+#![tactic(auto)]
+
 ghost use Rattle.std.specs.Prelude.{◌≡◌, ◌+◌, ◌-◌, ◌≤◌, length};
 ghost use Rattle.wire.specs.LittleEndian.{store};
 ghost use Rattle.model.specs.Ring.{layout_of, ring_for, slot_at, set_response, response_operation_at, response_status_at, response_padding_at};
@@ -16,6 +18,7 @@ fn put_operation(page: &mut [u8], at: usize, operation: u8)
 }
 
 // Zeros from `at` to the end of the response, so that no byte of the guest's stays there.
+#[tactic(auto, unfolding(wire::specs::LittleEndian::store))]
 fn put_padding(page: &mut [u8], abi: Abi, at: usize)
     requires { at + ((layout_of abi).response_size - response_padding_at) ≤ length page.old }
     ensures { page.new ≡ store ((layout_of abi).response_size - response_padding_at) page.old at 0 }

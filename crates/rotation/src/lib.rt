@@ -1,4 +1,6 @@
 // A turn's way round the ports: the look for one with something to serve.
+#![tactic(auto)]
+
 mod pick;
 
 pub use pick::{Pick, pick_port};

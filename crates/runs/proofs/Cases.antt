@@ -1,7 +1,7 @@
 -- Worked cases of joining, computed from the definitions. Assumes nothing.
 use mathlib.Core.Path.{◌≡◌, refl}
 use mathlib.Core.List.{List, [], ◌∷◌, ◌++◌}
-use Prim.Native.Nat.{ℕ, ◌+◌, ◌-◌, ◌^◌}
+use Prim.Native.Nat.{ℕ, ◌-◌, ◌^◌}
 use lib.ListN.{length}
 use Rattle.runs.specs.Answer.{is_no_plan, runs_in, joined}
 use Rattle.runs.specs.Join.{extent_at, extents_at, is_sound, follows, followed, are_sound, joins, joins_next, in_first, groups_of, total_length, run_of, runs_of}

@@ -1,6 +1,6 @@
 -- The extents from a place on: the first of them, how it stands to the next, and whether they are sound. Assumes nothing.
 use borrow.Author.Tests.{eqb-true, leb-true, ltb-true}
-use mathlib.Core.Path.{◌≡◌, refl}
+use mathlib.Core.Path.{◌≡◌, refl, ap, ◌∙◌}
 use mathlib.Core.Bool.{Bool, true, false, ◌&&◌}
 use mathlib.Core.List.{List, [], ◌∷◌}
 use Prim.Native.Nat.{ℕ, zero, suc, ◌+◌, ◌-◌, ◌<◌, ◌≤◌, ◌^◌}
@@ -115,3 +115,23 @@ module _ (e : Run) (h : is_sound e ≡ true) where
 pub follows-at : (e f : Run) → follows e f ≡ true → f.sector ≡ e.sector + e.length
 unfolding follows
 follows-at e f h = eqb-true f.sector (e.sector + e.length) h
+
+pub ruleset neighbours = (last-followed, last-joins, next-followed, next-joins)
+
+-- ---- the extents that are left, as the loops of the code look at them
+
+module _ (words : List ℕ) (i n : ℕ) (h : i < n) where
+  abbrev here : Run
+  here = extent_at words [] i
+
+  abbrev behind : List Run
+  behind = extents_at words [] (i + 1) (n - (i + 1))
+
+  pub sound_left_on : is_sound here && followed here behind ≡ true → are_sound (extents_at words [] i (n - i)) ≡ are_sound behind
+  sound_left_on s = ap are_sound (extents-cons words [] i n h) ∙ sound-on here behind s
+
+  pub sound_left_off : is_sound here && followed here behind ≡ false → are_sound (extents_at words [] i (n - i)) ≡ false
+  sound_left_off s = ap are_sound (extents-cons words [] i n h) ∙ sound-off here behind s
+
+pub sound_left_none : (words : List ℕ) (i n : ℕ) → i ≡ n → are_sound (extents_at words [] i (n - i)) ≡ true
+sound_left_none words i n h = ap are_sound (extents-none words [] i n h) ∙ sound_none

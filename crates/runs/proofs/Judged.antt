@@ -32,3 +32,5 @@ module _ (words : List ℕ) (n : ℕ) (frames : List ℕ) (room : ℕ) where
         pub enough : k ≤ room → Joined.Done k ≡ joined words n frames room
         unfolding joined is_no_plan runs_in
         enough r = rw (le-ltb (length words / 4) n p, s, le-ltb (length frames) n f, ← is, le-ltb room k r)
+
+pub ruleset judged = (few-places, unsound, few-frames, few-runs, enough)

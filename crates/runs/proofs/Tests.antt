@@ -73,3 +73,11 @@ module _ (e f : Run) where
         | yes h ↦ eq-eqb 8 k (omega arith) ∙ (sym (eq-eqb k 8 h) ∙ both (eqb k 8))
         | no h ↦ ne_eqb 8 k (λ d. h (omega arith)) ∙ (sym (ne_eqb k 8 h) ∙ both (eqb k 8))
       ]
+
+-- ---- as the functions' proofs name them
+
+pub ruleset sums = (no-sum, sum)
+
+pub ruleset sound_tests = (none, too_long, in_frame)
+
+pub ruleset join_tests = (in-one-frame, not-at-start, not-next, at_next)

@@ -10,6 +10,7 @@ use model::limit::EXTENT_WORDS;
 use model::refusal::{NO_PLAN, TOO_FEW_FRAMES, TOO_FEW_RUNS};
 
 // The answer to extents and frames, where the list has `room` records. A frame is looked at only where there is one for each extent.
+#[tactic(auto, using(crate::proofs::Judged::judged))]
 pub fn judge(words: &[u64], count: u64, frames: &[u64], room: usize) -> Joined
     ensures { result ≡ joined words.now count frames.now room }
 {

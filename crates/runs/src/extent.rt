@@ -12,6 +12,7 @@ const FRAME_SECTORS: u64 = 8;
 const MOST: u64 = 18446744073709551615;
 
 // The extent at place i as the plan has it, with no machine frame.
+#[tactic(auto, unfolding(crate::specs::Join::extent_at))]
 pub fn extent_in(words: &[u64], i: usize) -> Run
     requires { 4 * i + 4 ≤ length words.now }
     ensures { result ≡ extent_at words.now [] i }
@@ -26,6 +27,7 @@ pub fn extent_in(words: &[u64], i: usize) -> Run
 }
 
 // The extent at place i in its machine frame.
+#[tactic(auto, unfolding(crate::specs::Join::extent_at))]
 pub fn extent_at(words: &[u64], frames: &[u64], i: usize) -> Run
     requires { (4 * i + 4 ≤ length words.now) × (i < length frames.now) }
     ensures { result ≡ extent_at words.now frames.now i }
@@ -39,6 +41,7 @@ pub fn extent_at(words: &[u64], frames: &[u64], i: usize) -> Run
     }
 }
 
+#[tactic(auto, using(crate::proofs::Tests::sound_tests))]
 pub fn is_sound(e: Run) -> bool
     ensures { result ≡ is_sound e }
 {
@@ -54,6 +57,7 @@ pub fn is_sound(e: Run) -> bool
     e.length <= MOST - e.sector
 }
 
+#[tactic(auto, using(crate::proofs::Tests::sums), unfolding(crate::specs::Join::follows))]
 pub fn follows(e: Run, f: Run) -> bool
     ensures { result ≡ follows e f }
 {
@@ -73,6 +77,7 @@ fn ends_at(e: Run, at: u64) -> bool
     at - e.length == e.first
 }
 
+#[tactic(auto, using(crate::proofs::Tests::join_tests))]
 pub fn joins(e: Run, f: Run) -> bool
     ensures { result ≡ joins e f }
 {

@@ -7,6 +7,7 @@ use crate::extent::{extent_at, joins};
 use crate::{FirstRun, Run};
 
 // Extent i of n joins the next one, if there is one.
+#[tactic(auto, using(crate::proofs::Extents::neighbours))]
 fn joins_next(words: &[u64], frames: &[u64], i: usize, n: usize) -> bool
     requires { (i < n) × ((4 * n ≤ length words.now) × (n ≤ length frames.now)) }
     ensures { result ≡ joins_next (extent_at words.now frames.now i) (extents_at words.now frames.now (i + 1) (n - (i + 1))) }

@@ -1,4 +1,6 @@
 // A plan's extents joined to runs, for a host that makes one disk call for several extents. It knows extents and nothing of rings.
+#![tactic(auto)]
+
 mod call;
 mod extent;
 mod joining;
@@ -10,7 +12,7 @@ pub use list::fill;
 
 // A run of sectors: where it begins in the machine's memory, how long it is, and where it goes on the disk (rule 17.13). The host's record, laid out as in C.
 #[repr(C)]
-#[derive(Drop)]
+#[derive(Clone, Copy)]
 pub struct Run {
     pub frame: u64,
     pub first: u64,
@@ -19,14 +21,14 @@ pub struct Run {
 }
 
 // The answer of joining: the number of runs (rule 17.14).
-#[derive(Drop)]
+#[derive(Clone, Copy)]
 pub enum Joined {
     Refused(u32),
     Done(u64),
 }
 
 // The first run of some extents, and the place behind its last one.
-#[derive(Drop)]
+#[derive(Clone, Copy)]
 pub struct FirstRun {
     pub run: Run,
     pub next: usize,

@@ -5,6 +5,7 @@ ghost use Rattle.runs.specs.Join.{extent_at, extents_at, is_sound, followed, are
 use crate::extent::{extent_in, follows, is_sound};
 
 // Extent i of n is sound, and the next one, if there is one, follows it.
+#[tactic(auto, using(crate::proofs::Extents::neighbours))]
 fn sound_at(words: &[u64], i: usize, n: usize) -> bool
     requires { (i < n) × (4 * n ≤ length words.now) }
     ensures { result ≡ is_sound (extent_at words.now [] i) && followed (extent_at words.now [] i) (extents_at words.now [] (i + 1) (n - (i + 1))) }

@@ -11,7 +11,7 @@ use Rattle.model.specs.declared.Segment.{Segment}
 use Rattle.model.proofs.Base.{and_left, and_right, and-false}
 use Rattle.segments.specs.Segments.{passes, Scanned}
 use Rattle.segments.specs.declared.Counted.{Counted}
-use Rattle.segments.proofs.Slot.{all-and, all_snoc, all-stops, length-segments, segments-snoc, within-total, total-snoc}
+use Rattle.segments.proofs.Slot.{all-and, all_snoc, all_stops, length-segments, segments-snoc, within-total, total-snoc}
 use Rattle.extents.proofs.Words.{length-extents, extents-snoc, words_snoc, words-add, take_put}
 
 -- ---- one segment
@@ -118,14 +118,14 @@ module _ (grants : List ℕ) (operation : ℕ) (start : ℕ) where
       record { found = rw u.passed (ap Counted.Sectors same); front = λ _ k. u.front k }
 
   -- a segment that does not pass
-  pub scan-fails : (ss : List Segment) (words : List ℕ) → all (passes grants operation) ss ≡ false → Scanned grants operation start ss Counted.Fault words
-  scan-fails ss words h = record { found = rw h; front = λ e. let z : ◌≡◌ {A = ℕ} 0 1 = cc in absurd (omega arith) }
+  pub scan_fails : (ss : List Segment) (words : List ℕ) → all (passes grants operation) ss ≡ false → Scanned grants operation start ss Counted.Fault words
+  scan_fails ss words h = record { found = rw h; front = λ e. let z : ◌≡◌ {A = ℕ} 0 1 = cc in absurd (omega arith) }
 
   -- segment i of a slot does not pass
   pub fails-at : (l : Layout) (slot : List ℕ) (n i : ℕ) (words : List ℕ) → i < n → passes grants operation (segment_of l slot i) ≡ false
       → Scanned grants operation start (segments_of n l slot 0) Counted.Fault words
   fails-at l slot n i words h e =
-      scan-fails (segments_of n l slot 0) words (all-stops (passes grants operation) l slot n i h e)
+      scan_fails (segments_of n l slot 0) words (all_stops (passes grants operation) l slot n i h e)
 
 -- ---- what a pass says
 

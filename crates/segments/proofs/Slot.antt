@@ -1,5 +1,5 @@
 -- What stands in a slot: its segments and their sectors. Assumes nothing.
-use Rattle.std.proofs.Common.{◌≡◌, ℕ, zero, suc, ◌+◌, ◌*◌, ◌<◌, ◌≤◌, Bool, true, false, ◌&&◌, leb, List, [], ◌∷◌, ◌++◌, length, refl, ap, add-zero, zero-add, arith, le-leb, leb-true}
+use Rattle.std.proofs.Common.{◌≡◌, ℕ, zero, suc, ◌+◌, ◌-◌, ◌*◌, ◌/◌, ◌<◌, ◌≤◌, Bool, true, false, ◌&&◌, leb, List, [], ◌∷◌, ◌++◌, length, refl, ap, add-zero, add-one, zero-add, arith, le-leb, leb-true}
 use borrow.Author.Tests.{lt-leb}
 use Rattle.model.specs.Base.{all}
 use Rattle.model.specs.Ring.{Layout, segment_of, segments_of}
@@ -58,8 +58,26 @@ module _ (f : Segment → Bool) (l : Layout) (slot : List ℕ) where
   pub all_more : (i : ℕ) → all f (segments_of i l slot 0) ≡ true → f (segment_of l slot i) ≡ true → all f (segments_of (i + 1) l slot 0) ≡ true
   all_more i h e = rw (segments-snoc i l slot 0, zero-add i) (all_snoc f (segments_of i l slot 0) (segment_of l slot i) h e)
 
-  pub all-stops : (n i : ℕ) → i < n → f (segment_of l slot i) ≡ false → all f (segments_of n l slot 0) ≡ false
-  all-stops n i h e = all-fails f n l slot 0 i h (rw (zero-add i) e)
+  pub all_stops : (n i : ℕ) → i < n → f (segment_of l slot i) ≡ false → all f (segments_of n l slot 0) ≡ false
+  all_stops n i h e = all-fails f n l slot 0 i h (rw (zero-add i) e)
+
+  -- as a loop goes that has i behind it: a test of the rest is one of the next and of those behind it
+  pub all_next : (n i : ℕ) → i < n → all f (segments_of (n - i) l slot i) ≡ f (segment_of l slot i) && all f (segments_of (n - (i + 1)) l slot (i + 1))
+  unfolding all segments_of
+  all_next n i h =
+      let e : n - i ≡ suc (n - (i + 1)) = omega arith in
+      rw (e, add-one) refl
+
+  -- the same where a loop counts four words to each
+  pub four_next : (n place : ℕ) → place < 4 * n → place ≡ 4 * (place / 4)
+      → all f (segments_of (n - place / 4) l slot (place / 4)) ≡ f (segment_of l slot (place / 4)) && all f (segments_of (n - (place + 4) / 4) l slot ((place + 4) / 4))
+  four_next n place h e =
+      let q : (place + 4) / 4 ≡ place / 4 + 1 = omega arith in
+      rw q (all_next n (place / 4) (omega arith))
+
+  pub all_end : (n i : ℕ) → n ≤ i → all f (segments_of (n - i) l slot i) ≡ true
+  unfolding all segments_of
+  all_end n i h = let e : n - i ≡ 0 = omega arith in rw e refl
 
 -- ---- sectors
 

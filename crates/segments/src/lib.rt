@@ -1,4 +1,6 @@
 // Checks 26 and 27 over a request's segments, and the extents that they become.
+#![tactic(auto)]
+
 ghost use Rattle.std.specs.Prelude.{◌≡◌, ◌≤◌, length, if◌then◌else◌};
 ghost use Rattle.model.specs.Base.{all};
 ghost use Rattle.model.specs.Buffers.{grant_share};
@@ -45,6 +47,7 @@ fn suffices(grant: u8, operation: u8) -> bool
 // The first n segments in one pass for both checks, their extents put into `words`. Which of the two failed is looked for only where one did. A disk sector
 // may pass 2^64 here, since check 28 comes later; it wraps, and the request is refused. The loop counts the words, four to a segment of eight bytes: one
 // number for both places.
+#[tactic(auto, using(crate::proofs::Slot::four_next, crate::proofs::Pass::scan_fails), unfolding(model::specs::Ring::segment_of, model::specs::Checks::is_within_frame, model::specs::Checks::is_granted, crate::specs::Segments::passes))]
 pub fn scan(
     slot: &[u8; SLOT_BYTES],
     n: usize,
@@ -84,6 +87,7 @@ pub fn scan(
 }
 
 // Which of 26 and 27 the first n segments fail, where they fail one: 26 where any is not within its frame.
+#[tactic(auto, using(crate::proofs::Slot::all_next, crate::proofs::Slot::all_end), unfolding(model::specs::Ring::segment_of, model::specs::Checks::is_within_frame))]
 pub fn fault_reason(slot: &[u8; SLOT_BYTES], n: usize) -> u32
     requires { n ≤ max_segments }
     ensures { result ≡ (if all is_within_frame (segments_of n copy_layout slot.now 0) then 27 else 26) }

@@ -1,4 +1,6 @@
 // Serving a port: an overrun, or one request, started or answered at once.
+#![tactic(auto)]
+
 ghost use Rattle.std.specs.Prelude.{◌≡◌, ◌<◌, length};
 ghost use Rattle.model.specs.Buffers.{ports};
 ghost use Rattle.model.specs.Backend.{view_of};

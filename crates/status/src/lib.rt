@@ -1,4 +1,6 @@
 // The status that a response tells the guest: by the result of the request, and as the number that the response carries.
+#![tactic(auto)]
+
 ghost use Rattle.std.specs.Prelude.{◌≡◌};
 ghost use Rattle.std.specs.Int.{w64};
 ghost use Rattle.std.proofs.Common.{to_z};

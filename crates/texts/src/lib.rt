@@ -1,4 +1,6 @@
 // The texts of the bodies, each with its value or its refusal (rules 3.5 and 3.9).
+#![tactic(auto)]
+
 ghost use Rattle.std.specs.Prelude.{◌≡◌};
 ghost use Rattle.model.specs.Base.{same};
 ghost use Rattle.model.specs.NodeSheet.{choice_body, is_sector_size, number_body, is_allowed, number_of, body_of};
@@ -26,6 +28,7 @@ fn is_text(text: &[u8], asked: &[u8]) -> bool
 }
 
 // One of two texts, for 0 and for 1.
+#[tactic(auto, unfolding(model::specs::NodeSheet::choice_body))]
 fn choice_body(text: &[u8], off: &[u8], on: &[u8]) -> Body
     ensures { result ≡ choice_body text.now off.now on.now }
 {
@@ -38,6 +41,7 @@ fn choice_body(text: &[u8], off: &[u8], on: &[u8]) -> Body
     Body::Refused(SHEET_TEXT)
 }
 
+#[tactic(auto, unfolding(model::specs::NodeSheet::is_sector_size))]
 fn is_sector_size(v: u64) -> bool
     ensures { result ≡ is_sector_size v }
 {
@@ -54,6 +58,7 @@ fn is_sector_size(v: u64) -> bool
 }
 
 // Whether a number may stand at a node: a sector size, any number of sectors, or a page order of 0 or 1.
+#[tactic(auto, unfolding(model::specs::NodeSheet::is_allowed))]
 fn is_allowed(node: usize, v: u64) -> bool
     ensures { result ≡ is_allowed node v }
 {
@@ -67,6 +72,7 @@ fn is_allowed(node: usize, v: u64) -> bool
 }
 
 // A number that the node allows.
+#[tactic(auto, unfolding(model::specs::NodeSheet::number_body))]
 fn number_body(node: usize, text: &[u8]) -> Body
     ensures { result ≡ number_body (is_allowed node) (number_of text.now) }
 {

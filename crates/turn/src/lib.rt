@@ -1,4 +1,6 @@
 // One turn: the look for a port with something to serve, and then its service, or the arming of all open ports.
+#![tactic(auto)]
+
 ghost use Rattle.std.specs.Prelude.{◌≡◌, length};
 ghost use Rattle.model.specs.Answers.{turn_words};
 ghost use Rattle.model.specs.Calls.{Turn};
@@ -23,7 +25,7 @@ fn turn_into(
     words: &mut [u64],
 ) -> Turned
     requires { length words.old ≡ plan_words }
-    ensures { Promised memory.old (Turn rings.entry.now grants.now words.old) (record { rings = rings.exit.now; words = words.new; answer = result }) memory.new }
+    ensures { Promised memory.old (Turn rings.old grants.now words.old) (record { rings = rings.new; words = words.new; answer = result }) memory.new }
 {
     if rings.len() != RINGS_BYTES {
         return Turned::Refused(WRONG_LENGTH);

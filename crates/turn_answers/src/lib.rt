@@ -1,4 +1,6 @@
 // A turn's answer as the words and the number that C reads.
+#![tactic(auto)]
+
 ghost use Rattle.std.specs.Prelude.{◌≡◌, [], ◌∷◌};
 ghost use Rattle.model.specs.Answers.{turned_number, turned_words, extents_in, turn_answer, turn_left};
 ghost use Rattle.model.specs.declared.Turned.{Turned as Answer};

@@ -1,29 +1,35 @@
 -- The verdict by what the code has found out. Assumes nothing.
 use borrow.Author.Tests.{ne_eqb, eqb-true, leb-true, ltb-false}
-use mathlib.Core.Path.{◌≡◌, refl, sym, ◌∙◌}
+use mathlib.Core.Path.{◌≡◌, refl, sym, ap, ◌∙◌}
 use mathlib.Core.Bool.{Bool, true, false, not, cond, ◌&&◌, ◌||◌}
-use mathlib.Core.List.{List, []}
+use mathlib.Core.List.{List, [], ◌++◌}
 use mathlib.Core.Logic.{◌⊎◌, inl, inr, ⊎_elim}
-use Prim.Native.Nat.{ℕ, ◌%◌, ◌≤◌}
+use Prim.Native.Nat.{ℕ, ◌+◌, ◌-◌, ◌*◌, ◌%◌, ◌^◌, ◌<◌, ◌≤◌}
 use native.Mathlib.Decide.{ℕ_discrete}
 use native.Mathlib.Omega.{arith}
 use lib.Dec.{eqb, ltb, leb}
-use lib.ListN.{length}
+use lib.ListN.{length, get_or, take}
 use Rattle.model.specs.Base.{all}
-use Rattle.model.specs.Ring.{Request}
-use Rattle.layout.specs.Copy.{request_in}
+use Rattle.model.specs.Ring.{Request, segments_of, request_of}
+use Rattle.wire.specs.LittleEndian.{load}
+use Rattle.layout.specs.Copy.{copy_layout, request_in}
 use Rattle.model.specs.Checks.{is_empty_barrier, moves_nothing, total_sectors, count_of, data_segments, is_granted, unknown_operation, wrong_amount, is_within_frame, wrong_segment, not_granted, operation_checks, segment_checks, disk_checks, checks, first_failed}
 use Rattle.model.specs.Plan.{extents_from, extents_of, extent_words, asks_secure, is_secure, plan_of, decided, verdict_of, no_words, words_beside}
 use Rattle.model.specs.declared.Checked.{Checked}
 use Rattle.model.specs.declared.Params.{Params}
 use Rattle.model.specs.declared.Plan.{Plan}
+use Rattle.model.specs.declared.Segment.{Segment}
 use Rattle.model.specs.declared.Status.{Status}
 use Rattle.model.specs.declared.Verdict.{Verdict}
 use Rattle.model.proofs.Base.{clash}
 use Rattle.segments.specs.Segments.{passes}
-use Rattle.segments.proofs.Pass.{passes-each, passes-within, passes-granted}
+use Rattle.segments.proofs.Pass.{passes-each, passes-within, passes-granted, words-all}
+use Rattle.segments.proofs.Slot.{length-segments}
 use Rattle.extents.proofs.Words.{length-extents}
 use Rattle.checks.proofs.OperationReasons.{is-unknown}
+use Rattle.ranges.proofs.DiskRange.{range-then, passed-within}
+use Rattle.checks.specs.Operations.{operation_reason}
+use Rattle.checks.proofs.Reasons.{operation-passed}
 use Rattle.checks.proofs.Steps.{none-fails, checked-steps, by-steps, and_then}
 use Rattle.plans.specs.Starts.{empty_start, discard_start, data_start}
 use Rattle.verdicts.specs.Judge.{Judged}
@@ -248,3 +254,70 @@ module _ (p : Params) (grants slot : List ℕ) (v : Verdict) (words : List ℕ) 
       → words ≡ extent_words 11 (extents_of (request_in slot)) → Judged p grants slot v words
   unfolding words_beside
   judged-start plan a b c = record { verdict = b ∙ sym a; beside = c ∙ rw a }
+
+-- ---- the promise, by what stands in the slot
+
+module _ (p : Params) (slot : List ℕ) (h : operation_reason p (request_in slot) ≡ 0) where
+  asked-passed : first_failed (operation_checks p (request_in slot)) ≡ Checked.Passed
+  asked-passed = operation-passed p (request_in slot) h
+
+  module _ (o : get_or slot 0 0 ≡ 5) (grants words : List ℕ) (w : words ≡ no_words) where
+    pub discard_no : (n : ℕ) (s : Status) → first_failed (disk_checks p (load 8 slot 16) (load 8 slot 24) []) ≡ Checked.Refused n s → Judged p grants slot (Verdict.Refused n s) words
+    unfolding request_of
+    discard_no n s z = judged-refused p grants slot _ words n s (discard-refused p (request_in slot) o grants asked-passed n s z) refl w
+
+    pub discard_yes : first_failed (disk_checks p (load 8 slot 16) (load 8 slot 24) []) ≡ Checked.Passed
+        → Judged p grants slot (discard_start (load 8 slot 16) (load 8 slot 24) (eqb (get_or slot 1 0 % 2) 1 && p.secure)) words
+    unfolding request_of
+    discard_yes z =
+        judged-start p grants slot _ words _
+        (discard-started p (request_in slot) o grants asked-passed z)
+        refl
+        (w ∙ ap (extent_words 11) (sym (discard-extents p (request_in slot) o)))
+
+  module _ (d : get_or slot 0 0 ≡ 5 → ⊥) where
+    -- the first part says nothing: it shows the call to match
+    pub few_asked : (operation_reason p (request_in slot) ≡ operation_reason p (request_in slot)) × (get_or slot 1 0 ≤ 11)
+    unfolding request_of
+    few_asked = (refl, data-few p [] (request_in slot) asked-passed d)
+
+    module _ (k : get_or slot 1 0 ≡ 0 → ⊥) (grants : List ℕ) where
+      abbrev in_slot : List Segment
+      in_slot = segments_of (get_or slot 1 0) copy_layout slot 0
+
+      -- 26 or 27
+      pub data_fault : (words : List ℕ) → words ≡ no_words → all (passes grants (get_or slot 0 0)) in_slot ≡ false
+          → Judged p grants slot (Verdict.Refused (cond (all is_within_frame in_slot) 27 26) Status.Error) words
+      unfolding request_of
+      data_fault words w z = judged-refused p grants slot _ words _ _ (data-fault p grants (request_in slot) asked-passed d k z) refl w
+
+      module _ (z : all (passes grants (get_or slot 0 0)) in_slot ≡ true) where
+        -- 28 or 29
+        pub data_no : (words : List ℕ) (n : ℕ) (s : Status) → words ≡ no_words
+            → first_failed (disk_checks p (load 8 slot 16) (total_sectors in_slot) in_slot) ≡ Checked.Refused n s
+            → Judged p grants slot (Verdict.Refused n s) words
+        unfolding request_of
+        data_no words n s w e = judged-refused p grants slot _ words n s (data-refused p grants (request_in slot) asked-passed d k z n s e) refl w
+
+        -- check 28 has passed: so no disk sector wrapped
+        pub data_yes : (words : List ℕ) → first_failed (disk_checks p (load 8 slot 16) (total_sectors in_slot) in_slot) ≡ Checked.Passed
+            → p.sectors < 2 ^ 64
+            → (load 8 slot 16 + total_sectors in_slot < 2 ^ 64 → take (4 * length in_slot) words ≡ extent_words (length in_slot) (extents_from (load 8 slot 16) in_slot))
+            → Judged p grants slot (data_start (get_or slot 0 0) (load 8 slot 16) (total_sectors in_slot) (get_or slot 1 0))
+            (take (4 * get_or slot 1 0) words ++ extent_words (11 - get_or slot 1 0) [])
+        unfolding request_of
+        data_yes words e m f =
+            let long : length in_slot ≡ get_or slot 1 0 = length-segments (get_or slot 1 0) copy_layout slot 0 in
+            let fits : load 8 slot 16 + total_sectors in_slot < 2 ^ 64 = omega (arith, passed-within p (load 8 slot 16) (total_sectors in_slot) in_slot e) in
+            judged-start p grants slot _ _ _
+            (data-started p grants (request_in slot) asked-passed d k z e)
+            (rw long refl)
+            (words-all (load 8 slot 16) (get_or slot 1 0) in_slot words long few_asked.1 (rw long at (f fits))
+            ∙ ap (extent_words 11) (sym (data-extents p grants (request_in slot) asked-passed d)))
+
+-- for the automatic steps of each function
+pub ruleset of_place = (range-then)
+
+pub ruleset of_discard = (discard_no, discard_yes)
+
+pub ruleset of_data = (few_asked, passes-each, data_fault, data_no, data_yes)

@@ -1,4 +1,6 @@
 // A request that passed the checks 21 to 25, judged: a discard, or a read, write or barrier with segments. Only the copy of its slot is read.
+#![tactic(auto)]
+
 ghost use Rattle.std.specs.Prelude.{true, ◌≡◌, ◌≤◌, length, get_or};
 ghost use Rattle.model.specs.Base.{all};
 ghost use Rattle.model.specs.Buffers.{grant_share};
@@ -22,6 +24,7 @@ fn wide(x: u8) -> u32
 }
 
 // A discard that passed the checks 21 to 25.
+#[tactic(auto, using(crate::proofs::Verdict::of_discard))]
 pub fn discard(params: Params, slot: &[u8; SLOT_BYTES], grants: &[u8], words: &mut [u64]) -> Verdict
     requires { (operation_reason params (request_in slot.now) ≡ 0) × (get_or slot.now request_operation_at 0 ≡ discard) × (length words.old ≡ plan_words) }
     ensures { Judged params grants.now slot.now result words.new }
@@ -42,6 +45,7 @@ pub fn discard(params: Params, slot: &[u8; SLOT_BYTES], grants: &[u8], words: &m
 }
 
 // 28 and 29 of a request whose first n segments, `count` sectors in all, lie within their frames.
+#[tactic(auto, using(crate::proofs::Verdict::of_place))]
 fn check_place(params: Params, slot: &[u8; SLOT_BYTES], n: usize, start: u64, count: u64) -> Checked
     requires { (n ≤ max_segments) × (all is_within_frame (segments_of n copy_layout slot.now 0) ≡ true) × (count ≡ total_sectors (segments_of n copy_layout slot.now 0)) }
     ensures { result ≡ first_failed (disk_checks params start count (segments_of n copy_layout slot.now 0)) }
@@ -62,6 +66,7 @@ fn check_place(params: Params, slot: &[u8; SLOT_BYTES], n: usize, start: u64, co
 }
 
 // A read, write or barrier with segments that passed the checks 21 to 25.
+#[tactic(auto, using(crate::proofs::Verdict::of_data))]
 pub fn data(params: Params, slot: &[u8; SLOT_BYTES], grants: &[u8], words: &mut [u64]) -> Verdict
     requires { (length grants.now ≡ grant_share) × (operation_reason params (request_in slot.now) ≡ 0) × (get_or slot.now request_operation_at 0 ≡ discard → ⊥) × (get_or slot.now request_count_at 0 ≡ 0 → ⊥) × (length words.old ≡ plan_words) }
     ensures { Judged params grants.now slot.now result words.new }

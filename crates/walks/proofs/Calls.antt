@@ -5,7 +5,7 @@
 use mathlib.Core.Path.{◌≡◌, sym, ap, subst}
 use mathlib.Core.List.{[], ◌∷◌, List}
 use seplogic.Ra.Ura.{Ura}
-use mir.Syntax.{Name, Body, Place, Opd as Operand, call, seq}
+use mir.Syntax.{Callee, Body, Place, Opd as Operand, call, seq}
 use mir.Val.{Val}
 use base.Logic.{SProp, ent}
 use prog.Wp.{Env, Calls, Loops}
@@ -21,7 +21,7 @@ use denote.Triple.Statement.{Contract, Triple}
 use denote.Triple.Call.{calls_at}
 
 module _ {M : Type 1} {𝓤 : Ura M} {𝓛 : Logic 𝓤} {K : Type 0} {Γ : List (Item 𝓤)} {E : Env 𝓤 𝓛.H} {C : Calls 𝓤 𝓛.H} {Λ : Loops 𝓤 𝓛.H} {post : Post 𝓤 𝓛.H}
-    {f : Name} {xs : List Operand} {d : Place} {rest : Body} where
+    {f : Callee} {xs : List Operand} {d : Place} {rest : Body} where
   open 𝓛 use {H}
 
   pub finds : K → FmC 𝓤 H 𝓛.laws C → (c : Contract 𝓤) → Triple 𝓤 (C f) c → (x : c.Ghost) → Opds K 𝓛 (raw (c.pre x) ∷ Γ) E xs (c.args x)

@@ -1,5 +1,7 @@
 // Little-endian numbers in a slice of bytes.
 // The bytes are taken and put one by one, so that no read asks for an aligned address; the compiler joins them to one load or store.
+#![tactic(auto, unfolding(crate::specs::LittleEndian::load, crate::specs::LittleEndian::store))]
+
 ghost use Rattle.std.specs.Prelude.{◌≡◌, ◌+◌, ◌≤◌, ◌<◌, length, get_or};
 ghost use Rattle.std.specs.Int.{w16};
 ghost use Rattle.std.proofs.Common.{of_z};

@@ -9,14 +9,14 @@ const CRATES: &str = "# a comment
 wire:
 model: wire
 apart: model
-kernelharp: model io # the kit has io
+kernelharp staticlib: model json # the kit has json
 ";
 
 /// A repository that has the script, two crates that the library stands on and one that it does not.
 fn repository(name: &str) -> PathBuf {
     let folder = PathBuf::from(env!("CARGO_TARGET_TMPDIR")).join(name);
     let _ = fs::remove_dir_all(&folder);
-    for part in ["tests", "bin"] {
+    for part in ["tests", "bin", "crates/kernelharp/out"] {
         fs::create_dir_all(folder.join(part)).unwrap();
     }
     let script = Path::new(env!("CARGO_MANIFEST_DIR")).join("../../tests/archive");
@@ -48,7 +48,7 @@ fn what_the_library_stands_on_is_proved_first() {
     let folder = repository("archive-made");
     install(
         &folder,
-        "[ $1 = version ] && echo kit-0 logic || echo rt: $*",
+        "[ $1 = version ] && echo kit-0 logic || { echo rt: $* && touch out/libkernelharp.a; }",
     );
     let made = make(&folder);
     assert!(made.status.success() && made.stderr.is_empty(), "{made:?}");
@@ -59,7 +59,8 @@ fn what_the_library_stands_on_is_proved_first() {
     assert!(begin.contains(" 3 crates ") && begin.contains(" by kit-0;"));
     assert!(end.contains(" is made, "), "{end}");
     let said = fs::read_to_string(folder.join("target/log/archive.txt")).unwrap();
-    assert_eq!(said, "rt: check model wire\nrt: staticlib kernelharp\n");
+    assert_eq!(said, "rt: lib --cpu x86-64\n");
+    assert!(folder.join("target/staticlib/libkernelharp.a").is_file());
 }
 
 #[test]
@@ -70,7 +71,7 @@ fn a_proof_that_fails_shows_its_last_lines() {
     assert_eq!(failed.status.code(), Some(1));
     let lines: Vec<&str> = text(&failed.stderr).lines().collect();
     assert!(lines[0].contains("target/log/archive.txt"), "{lines:?}");
-    let last: Vec<String> = (81..=100).map(|number| format!("check {number}")).collect();
+    let last: Vec<String> = (81..=100).map(|number| format!("lib {number}")).collect();
     assert_eq!(lines[1..], last);
 }
 
@@ -80,6 +81,6 @@ fn without_the_toolchain_it_is_named() {
     let failed = make(&folder);
     assert_eq!(failed.status.code(), Some(1));
     let said = text(&failed.stderr);
-    assert!(said.contains("Rattle toolchain (rattle-kit-5b)"), "{said}");
+    assert!(said.contains("Rattle toolchain (rattle-kit-13f)"), "{said}");
     assert!(said.contains("README.md") && failed.stdout.is_empty());
 }

@@ -1,0 +1,15 @@
+-- `outstanding::end` meets its contract. Assumes nothing.
+use Rattle.outstanding.specs.Words.{pair_at, guest_of, words_ended}
+use Rattle.outstanding.proofs.end.Goals as goal
+use mathlib.Core.Path.{◌∙◌}
+use Rattle.outstanding.proofs.Words.{length-outstanding}
+
+pub returns : goal.returns
+unfolding guest_of pair_at words_ended
+returns c =
+    rw (
+      c.set_pair.ensures,
+      c.next_index-next.ensures,
+      c.collect_index.ensures,
+      c.outstanding-last.ensures.0 ∙ length-outstanding c.args.w.now,
+    )

@@ -1,0 +1,12 @@
+-- `records::tag::tag_at` meets its contract: each field by its word.
+use native.Mathlib.Nat.{add-zero}
+use native.Mathlib.Omega.{arith}
+use Rattle.memory.specs.Words.{tag_from, tag_at}
+use Rattle.memory.proofs.Backend.{backend-tag-at}
+use Rattle.records.proofs.tag.tag_at.Goals as goal
+
+pub returns : goal.returns
+unfolding tag_from tag_at
+returns c =
+    let a = c.args in
+    rw (backend-tag-at a.m.now a.k a.t (omega arith) (omega arith), c.narrow-2.ensures, c.narrow.ensures, c.word-2.ensures, c.word.ensures, add-zero)
