@@ -16,9 +16,17 @@ test:
 bench: target/staticlib/libkernelharp.a
 	@bash tests/bench
 
+# The crates' sources, without what rt keeps beside them.
+sources_of_crates := $(shell find crates -name out -prune -o \( -name '*.rt' -o -name '*.antt' \) -print)
+
 # The archive: proved, then compiled. The first time takes some minutes; it is shown how far it is.
-target/staticlib/libkernelharp.a: crates.txt $(shell find crates -name '*.rt' -o -name '*.antt')
+target/staticlib/libkernelharp.a: crates.txt $(sources_of_crates)
 	@tests/archive
+
+# The program that runs a trace again (docs/HOST.md, Traces): proved, then compiled; rt runs it once, on nothing.
+target/bin/replay: crates.txt $(sources_of_crates)
+	cd crates/replay && rt run </dev/null >/dev/null
+	install -D crates/replay/out/replay $@
 
 # make install: headers, archives, pkg-config and CMake files, man pages and documents, below DESTDIR. make uninstall, with the same folders, removes them.
 # Where libraries have a folder for each machine: LIBDIR=/usr/lib/x86_64-linux-gnu.

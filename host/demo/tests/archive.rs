@@ -1,9 +1,9 @@
 //! What `make demo` begins with, tests/archive, over an `rt` that only says what it was asked for.
 
-use std::fs;
 use std::os::unix::fs::PermissionsExt;
 use std::path::{Path, PathBuf};
-use std::process::{Command, Output};
+use std::process::{self, Command, Output};
+use std::{env, fs};
 
 const CRATES: &str = "# a comment
 wire:
@@ -12,30 +12,38 @@ apart: model
 kernelharp staticlib: model json # the kit has json
 ";
 
-/// A repository that has the script, two crates that the library stands on and one that it does not.
-fn repository(name: &str) -> PathBuf {
-    let folder = PathBuf::from(env!("CARGO_TARGET_TMPDIR")).join(name);
-    let _ = fs::remove_dir_all(&folder);
+/// A folder that goes with its owner. It lies outside this repository, in which rt takes no second crates.txt.
+struct Folder(PathBuf);
+
+impl Drop for Folder {
+    fn drop(&mut self) {
+        let _ = fs::remove_dir_all(&self.0);
+    }
+}
+
+/// A repository that has the script, and four crates.
+fn repository(name: &str) -> Folder {
+    let folder = env::temp_dir().join(format!("kernelharp-{name}-{}", process::id()));
     for part in ["tests", "bin", "crates/kernelharp/out"] {
         fs::create_dir_all(folder.join(part)).unwrap();
     }
     let script = Path::new(env!("CARGO_MANIFEST_DIR")).join("../../tests/archive");
     fs::copy(script, folder.join("tests/archive")).unwrap();
     fs::write(folder.join("crates.txt"), CRATES).unwrap();
-    folder
+    Folder(folder)
 }
 
 /// Has an `rt` that runs these commands.
-fn install(folder: &Path, commands: &str) {
-    let path = folder.join("bin/rt");
+fn install(folder: &Folder, commands: &str) {
+    let path = folder.0.join("bin/rt");
     fs::write(&path, format!("#!/bin/sh\n{commands}\n")).unwrap();
     fs::set_permissions(path, fs::Permissions::from_mode(0o755)).unwrap();
 }
 
-fn make(folder: &Path) -> Output {
+fn make(folder: &Folder) -> Output {
     let mut command = Command::new("bash");
-    let path = format!("{}:/usr/bin:/bin", folder.join("bin").display());
-    command.arg("tests/archive").current_dir(folder);
+    let path = format!("{}:/usr/bin:/bin", folder.0.join("bin").display());
+    command.arg("tests/archive").current_dir(&folder.0);
     command.env("PATH", path).output().unwrap()
 }
 
@@ -44,11 +52,15 @@ fn text(bytes: &[u8]) -> &str {
 }
 
 #[test]
-fn what_the_library_stands_on_is_proved_first() {
-    let folder = repository("archive-made");
+fn every_crate_is_proved_first() {
+    let folder = repository("made");
     install(
         &folder,
-        "[ $1 = version ] && echo kit-0 logic || { echo rt: $* && touch out/libkernelharp.a; }",
+        "case $1 in
+           version) echo kit-0 logic ;;
+           all) echo rt: $1 $2 $3 ;;
+           lib) echo rt: $* && touch out/libkernelharp.a ;;
+         esac",
     );
     let made = make(&folder);
     assert!(made.status.success() && made.stderr.is_empty(), "{made:?}");
@@ -56,28 +68,32 @@ fn what_the_library_stands_on_is_proved_first() {
     let [begin, end] = lines[..] else {
         panic!("{lines:?}");
     };
-    assert!(begin.contains(" 3 crates ") && begin.contains(" by kit-0;"));
+    assert!(begin.contains(" 4 crates ") && begin.contains(" by kit-0,"));
     assert!(end.contains(" is made, "), "{end}");
-    let said = fs::read_to_string(folder.join("target/log/archive.txt")).unwrap();
-    assert_eq!(said, "rt: lib --cpu x86-64\n");
-    assert!(folder.join("target/staticlib/libkernelharp.a").is_file());
+    let said = fs::read_to_string(folder.0.join("target/log/archive.txt")).unwrap();
+    assert_eq!(
+        said,
+        "rt: all check --jobs\n== libkernelharp.a\nrt: lib --cpu x86-64\n"
+    );
+    let archive = folder.0.join("target/staticlib/libkernelharp.a");
+    assert!(archive.is_file());
 }
 
 #[test]
 fn a_proof_that_fails_shows_its_last_lines() {
-    let folder = repository("archive-failed");
+    let folder = repository("failed");
     install(&folder, "seq 100 | sed \"s/^/$1 /\"; [ $1 = version ]");
     let failed = make(&folder);
     assert_eq!(failed.status.code(), Some(1));
     let lines: Vec<&str> = text(&failed.stderr).lines().collect();
     assert!(lines[0].contains("target/log/archive.txt"), "{lines:?}");
-    let last: Vec<String> = (81..=100).map(|number| format!("lib {number}")).collect();
+    let last: Vec<String> = (81..=100).map(|number| format!("all {number}")).collect();
     assert_eq!(lines[1..], last);
 }
 
 #[test]
 fn without_the_toolchain_it_is_named() {
-    let folder = repository("archive-without");
+    let folder = repository("without");
     let failed = make(&folder);
     assert_eq!(failed.status.code(), Some(1));
     let said = text(&failed.stderr);
