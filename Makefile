@@ -25,7 +25,8 @@ target/staticlib/libkernelharp.a: crates.txt $(sources_of_crates)
 
 # The program that runs a trace again (docs/HOST.md, Traces): proved, then compiled; rt runs it once, on nothing.
 target/bin/replay: crates.txt $(sources_of_crates)
-	cd crates/replay && rt run </dev/null >/dev/null
+	@mkdir -p target/log
+	(cd crates/replay && rt run </dev/null) >target/log/replay.txt 2>&1 || { tail -n 20 target/log/replay.txt; exit 1; }
 	install -D crates/replay/out/replay $@
 
 # make install: headers, archives, pkg-config and CMake files, man pages and documents, below DESTDIR. make uninstall, with the same folders, removes them.
