@@ -21,16 +21,10 @@ impl Drop for Folder {
     }
 }
 
-/// A repository that has the script, two crates that the library stands on and one that it does not.
+/// A repository that has the script, and four crates.
 fn repository(name: &str) -> Folder {
     let folder = env::temp_dir().join(format!("kernelharp-{name}-{}", process::id()));
-    for part in [
-        "tests",
-        "bin",
-        "crates/wire",
-        "crates/model",
-        "crates/kernelharp/out",
-    ] {
+    for part in ["tests", "bin", "crates/kernelharp/out"] {
         fs::create_dir_all(folder.join(part)).unwrap();
     }
     let script = Path::new(env!("CARGO_MANIFEST_DIR")).join("../../tests/archive");
@@ -58,13 +52,14 @@ fn text(bytes: &[u8]) -> &str {
 }
 
 #[test]
-fn what_the_library_stands_on_is_proved_first() {
+fn every_crate_is_proved_first() {
     let folder = repository("made");
     install(
         &folder,
         "case $1 in
            version) echo kit-0 logic ;;
-           lib) echo rt: $* && { [ $# = 1 ] || touch out/libkernelharp.a; } ;;
+           all) echo rt: $1 $2 $3 ;;
+           lib) echo rt: $* && touch out/libkernelharp.a ;;
          esac",
     );
     let made = make(&folder);
@@ -73,14 +68,13 @@ fn what_the_library_stands_on_is_proved_first() {
     let [begin, end] = lines[..] else {
         panic!("{lines:?}");
     };
-    assert!(begin.contains(" 3 crates ") && begin.contains(" by kit-0;"));
+    assert!(begin.contains(" 4 crates ") && begin.contains(" by kit-0,"));
     assert!(end.contains(" is made, "), "{end}");
     let said = fs::read_to_string(folder.0.join("target/log/archive.txt")).unwrap();
-    let (proved, compiled) = said.split_once("== libkernelharp.a\n").unwrap();
-    let mut proved: Vec<&str> = proved.lines().collect();
-    proved.sort_unstable();
-    assert_eq!(proved, ["model is proved", "wire is proved"]);
-    assert_eq!(compiled, "rt: lib --cpu x86-64\n");
+    assert_eq!(
+        said,
+        "rt: all check --jobs\n== libkernelharp.a\nrt: lib --cpu x86-64\n"
+    );
     let archive = folder.0.join("target/staticlib/libkernelharp.a");
     assert!(archive.is_file());
 }
@@ -93,7 +87,7 @@ fn a_proof_that_fails_shows_its_last_lines() {
     assert_eq!(failed.status.code(), Some(1));
     let lines: Vec<&str> = text(&failed.stderr).lines().collect();
     assert!(lines[0].contains("target/log/archive.txt"), "{lines:?}");
-    let last: Vec<String> = (81..=100).map(|number| format!("lib {number}")).collect();
+    let last: Vec<String> = (81..=100).map(|number| format!("all {number}")).collect();
     assert_eq!(lines[1..], last);
 }
 
