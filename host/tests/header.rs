@@ -277,18 +277,44 @@ fn rattle(source: &'static str, prefix: &str) -> BTreeMap<String, i64> {
     constants.collect()
 }
 
+/// The cases of an enum of a Rattle source, with their numbers, by the names that the header has for them.
+fn rattle_cases(source: &str, name: &str) -> BTreeMap<String, i64> {
+    let (_, behind) = source
+        .split_once(&format!("pub enum {name} {{"))
+        .expect("an enum");
+    let (cases, _) = behind.split_once('}').expect("its end");
+    let cases = cases
+        .lines()
+        .filter_map(|line| line.trim().strip_suffix(',')?.split_once(" = "));
+    cases
+        .map(|(case, number)| (in_header(case), number.parse().expect("a number")))
+        .collect()
+}
+
+/// `BadRequest` as `KH_BAD_REQUEST`.
+fn in_header(case: &str) -> String {
+    let mut name = String::from("KH");
+    for letter in case.chars() {
+        if letter.is_ascii_uppercase() {
+            name.push('_');
+        }
+        name.push(letter.to_ascii_uppercase());
+    }
+    name
+}
+
 #[test]
 fn rattle_refusals_reasons_operations_and_nodes() {
-    for (source, prefix, name) in [
-        (source!("model/src/refusal"), "KH_", "kh_refusal"),
-        (source!("model/src/reason"), "KH_", "kh_reason"),
-        (source!("model/src/operation"), "KH_", "kh_operation"),
-        (source!("model/src/node"), "KH_NODE_", "kh_node"),
+    let model = source!("model/src/lib");
+    for (rattle, name) in [
+        (rattle_cases(model, "Refusal"), "kh_refusal"),
+        (rattle_cases(model, "Reason"), "kh_reason"),
+        (rattle_cases(model, "Operation"), "kh_operation"),
+        (rattle(source!("model/src/node"), "KH_NODE_"), "kh_node"),
     ] {
         let mut header = cases(name);
         header.remove("KH_OK");
         header.remove("KH_NODES");
-        let rattle = rattle(source, prefix);
         assert_eq!(
             rattle
                 .iter()

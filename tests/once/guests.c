@@ -168,9 +168,10 @@ static void puttings_refused(void) {
     stand_at(&full);
     ask(KH_READ, 1, 1);
     refuse("put refused 31", CALL_PUT, PAGE_BYTES, KH_RING_FULL);
-    for (unsigned i = 0; i < 31 && taker->is_wanted(again); i++) {
+    /* From the last on, so that the few that are sampled look at every id before theirs. */
+    for (unsigned i = 31; i > 0 && taker->is_wanted(again); i--) {
         stand_at(&stands[2]);
-        ask(KH_WRITE, first_id + bench.front.rsp_cons + i, 1);
+        ask(KH_WRITE, first_id + bench.front.rsp_cons + i - 1, 1);
         refuse(again, CALL_PUT, PAGE_BYTES, KH_ID_OUTSTANDING);
     }
     puttings_refused_33();

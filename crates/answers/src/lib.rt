@@ -1,38 +1,23 @@
-// What answers share: the number of a refusal, a status by its magnitude, yes and no.
+// What answers share: the number of a refusal, a status by its magnitude.
 #![tactic(auto)]
 
 ghost use Rattle.std.specs.Prelude.{◌≡◌};
-ghost use Rattle.model.specs.Answers.{reply_number, magnitude, yes_no};
+ghost use Rattle.model.specs.Answers.{reply_number, magnitude};
 
-use model::{Reply, Status};
+use model::{Refusal, Status};
 
-pub fn number(reply: Reply) -> u32
+pub fn number(reply: Result<(), Refusal>) -> u32
     ensures { result ≡ reply_number reply }
 {
     match reply {
-        Reply::Refused(n) => n,
-        Reply::Done => 0,
+        Ok(()) => 0,
+        Err(refusal) => u32::from(refusal),
     }
 }
 
+// The number that a response carries, without its sign.
 pub fn magnitude(status: Status) -> u64
     ensures { result ≡ magnitude status }
 {
-    match status {
-        Status::Okay => 0,
-        Status::Error => 1,
-        Status::NotSupported => 2,
-    }
+    u64::from(i16::from(status).unsigned_abs())
 }
-
-pub fn yes_no(b: bool) -> u64
-    ensures { result ≡ yes_no b }
-{
-    if b {
-        return 1;
-    }
-    0
-}
-
-// No work: an array that is lent on as a slice is how a proof learns how many words it has.
-pub fn seen(answer: &[u64]) {}

@@ -2,16 +2,14 @@
 use mathlib.Core.Path.{◌≡◌, refl, ap, ◌∙◌, sym}
 use mathlib.Core.Bool.{Bool, true, false, not, ◌&&◌, ◌||◌}
 use mathlib.Core.List.{List}
-use Prim.Native.Nat.{ℕ, suc, ◌+◌, ◌-◌, ◌*◌, ◌^◌, ◌≤◌, ◌<◌, min}
-use native.Mathlib.Decide.{dec_lt, ℕ_discrete}
-use native.Mathlib.Nat.{sub-zero}
-use native.Mathlib.Numerals.{add-one}
+use Prim.Native.Nat.{ℕ, suc, ◌+◌, ◌*◌, ◌^◌, ◌≤◌, min}
+use native.Mathlib.Decide.{ℕ_discrete}
 use native.Mathlib.Omega.{arith}
 use lib.Dec.{eqb, ltb, leb}
 use lib.ListN.{get_or}
-use borrow.Author.Tests.{eqb-true, ne_eqb, leb-true, ltb-false, le-leb, lt-leb, lt-ltb, le-ltb, not-false}
+use borrow.Author.Tests.{eqb-true, ne_eqb, leb-true, ltb-false, le-ltb, not-false}
 use Rattle.model.specs.Base.{all}
-use Rattle.model.specs.Checks.{max_segments, is_empty_barrier, moves_nothing, unknown_operation, wrong_amount, is_within_frame, wrong_segment}
+use Rattle.model.specs.Checks.{max_segments, unknown_operation, wrong_amount, is_within_frame, wrong_segment}
 use Rattle.model.specs.Ring.{Request, read, write, barrier, flush, discard}
 use Rattle.model.proofs.Base.{clash, and_right, and-false}
 use Rattle.asking.specs.Request.{segment_in, segments_in, request_in, is_foreign, is_narrow, is_too_wide, is_bad}
@@ -30,9 +28,6 @@ or-two false = refl
 or-three : (b : Bool) → b || false || false || false ≡ b
 or-three true = refl
 or-three false = refl
-
-pub not-leb : (m n : ℕ) → ltb m n ≡ not (leb n m)
-not-leb m n = elim (dec_lt m n) [ yes l ↦ rw (lt-ltb m n l, lt-leb n m l) | no l ↦ rw (le-ltb m n (omega (arith, l)), le-leb n m (omega (arith, l))) ]
 
 -- ---- the backend's check 21
 
@@ -72,10 +67,6 @@ module _ (r : Request) where
   unfolding is_foreign wrong_amount
   asks-flush e = rw e (or-one (not (eqb amount 0)))
 
-  pub asks-discard : operation ≡ discard → asks ≡ eqb sectors 0
-  unfolding is_foreign wrong_amount
-  asks-discard e = rw e
-
   pub asks-other : (operation ≡ read → ⊥) → (operation ≡ write → ⊥) → (operation ≡ barrier → ⊥) → (operation ≡ flush → ⊥) → (operation ≡ discard → ⊥) → asks ≡ true
   unfolding is_foreign wrong_amount
   asks-other a b c d e = rw (ne_eqb operation 0 a, ne_eqb operation 1 b, ne_eqb operation 2 c, ne_eqb operation 3 d, ne_eqb operation 5 e)
@@ -97,24 +88,6 @@ module _ (r : Request) where
         ]
       ]
 
-  -- ---- what moves nothing
-
-  pub moves-flush : operation ≡ flush → moves_nothing r ≡ true
-  unfolding moves_nothing
-  moves-flush e = rw e
-
-  pub moves-barrier : operation ≡ barrier → amount ≡ 0 → moves_nothing r ≡ true
-  unfolding moves_nothing is_empty_barrier
-  moves-barrier e z = rw (e, z)
-
-  pub moves-segments : operation ≡ barrier → (amount ≡ 0 → ⊥) → moves_nothing r ≡ false
-  unfolding moves_nothing is_empty_barrier
-  moves-segments e z = rw (e, ne_eqb amount 0 z)
-
-  pub moves-other : (operation ≡ flush → ⊥) → (operation ≡ barrier → ⊥) → moves_nothing r ≡ false
-  unfolding moves_nothing is_empty_barrier
-  moves-other a b = rw (ne_eqb operation 3 a, ne_eqb operation 2 b)
-
 -- ---- segments: check 26, and frames that fit
 
 module _ (w : List ℕ) where
@@ -122,65 +95,14 @@ module _ (w : List ℕ) where
   abbrev pub good : ℕ → ℕ → Bool
   good n i = all is_within_frame (segments_in n w i) && all is_narrow (segments_in n w i)
 
-  and-swap : (a b c d : Bool) → a ≡ true → c ≡ true → (a && b) && (c && d) ≡ b && d
-  and-swap true b true d e f = refl
-  and-swap true b false d e f = clash f refl
-  and-swap false b c d e f = clash e refl
-
-  abbrev at : ℕ → ℕ
-  at i = 8 + 3 * i
-
-  pub good_none : (i : ℕ) → good 0 i ≡ true
-  unfolding all segments_in
-  good_none i = refl
-
-  pub good-next : (n i : ℕ) → get_or w (at i + 1) 0 ≤ get_or w (at i + 2) 0 → get_or w (at i + 2) 0 ≤ 7 → get_or w (at i) 0 < 2 ^ 32 → good (suc n) i ≡ good n (suc i)
-  unfolding all segments_in is_within_frame is_narrow segment_in
-  good-next n i a b c =
-      and-swap (is_within_frame (segment_in w i)) (all is_within_frame (segments_in n w (suc i))) (is_narrow (segment_in w i)) (all is_narrow (segments_in n w (suc i)))
-      (rw (le-leb _ _ a, le-leb _ _ b)) (lt-ltb _ _ c)
-
-  and-fails : (a b c d : Bool) → a ≡ false → (a && b) && (c && d) ≡ false
-  and-fails false b c d e = refl
-  and-fails true b c d e = clash refl e
-
-  pub good-crossed : (n i : ℕ) → get_or w (at i + 2) 0 < get_or w (at i + 1) 0 → good (suc n) i ≡ false
-  unfolding all segments_in is_within_frame is_narrow segment_in
-  good-crossed n i a =
-      and-fails (is_within_frame (segment_in w i)) (all is_within_frame (segments_in n w (suc i))) (is_narrow (segment_in w i)) (all is_narrow (segments_in n w (suc i)))
-      (rw (lt-leb _ _ a))
-
-  pub good-past : (n i : ℕ) → 7 < get_or w (at i + 2) 0 → good (suc n) i ≡ false
-  unfolding all segments_in is_within_frame is_narrow segment_in
-  good-past n i a =
-      and-fails (is_within_frame (segment_in w i)) (all is_within_frame (segments_in n w (suc i))) (is_narrow (segment_in w i)) (all is_narrow (segments_in n w (suc i)))
-      (rw (lt-leb _ _ a) (and-false (leb (get_or w (at i + 1) 0) (get_or w (at i + 2) 0))))
-
   wide-fails : (a c d : Bool) → c ≡ false → a && (c && d) ≡ false
   wide-fails a false d e = and-false a
   wide-fails a true d e = clash refl e
 
-  pub good-wide : (n i : ℕ) → 2 ^ 32 ≤ get_or w (at i) 0 → good (suc n) i ≡ false
+  -- a frame that its field has no room for (rule 16.7), whatever stands behind it
+  pub good-wide : (n i : ℕ) → 2 ^ 32 ≤ get_or w (8 + 3 * i) 0 → good (suc n) i ≡ false
   unfolding all segments_in is_narrow segment_in
   good-wide n i a = wide-fails (all is_within_frame (segments_in (suc n) w i)) (is_narrow (segment_in w i)) (all is_narrow (segments_in n w (suc i))) (le-ltb _ _ a)
-
--- a walk over n segments, at number i
-module _ (w : List ℕ) (n i : ℕ) (same : good w (n - i) i ≡ good w n 0) where
-  left-more : i < n → n - i ≡ suc (n - (i + 1))
-  left-more l = omega arith
-
-  pub walk-fault : i < n → ((m : ℕ) → good w (suc m) i ≡ false) → true ≡ not (good w n 0)
-  walk-fault l f = ap not (sym (f (n - (i + 1))) ∙ ap (λ (m : ℕ). good w m i) (sym (left-more l)) ∙ same)
-
-  pub walk-on : i < n → ((m : ℕ) → good w (suc m) i ≡ good w m (suc i)) → good w (n - (i + 1)) (i + 1) ≡ good w n 0
-  walk-on l f =
-      ap (λ (j : ℕ). good w (n - (i + 1)) j) (add-one i) ∙ sym (f (n - (i + 1))) ∙ ap (λ (m : ℕ). good w m i) (sym (left-more l)) ∙ same
-
-  pub walk_end : n ≤ i → false ≡ not (good w n 0)
-  walk_end l = let none : n - i ≡ 0 = omega arith in ap not (sym (good_none w i) ∙ ap (λ (m : ℕ). good w m i) (sym none) ∙ same)
-
-pub walk-begin : (w : List ℕ) (n : ℕ) → good w (n - 0) 0 ≡ good w n 0
-walk-begin w n = ap (λ (m : ℕ). good w m 0) (sub-zero n)
 
 -- ---- 33
 

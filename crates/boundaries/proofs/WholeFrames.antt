@@ -1,7 +1,7 @@
 -- Segments on the boundaries of a disk's sectors, told by how many sectors they have. Assumes nothing.
 use borrow.Author.Tests.{eqb-true}
 use mathlib.Core.Path.{◌≡◌, refl}
-use mathlib.Core.Bool.{Bool, true, false}
+use mathlib.Core.Bool.{Bool, true, false, ◌&&◌}
 use mathlib.Core.List.{List, [], ◌∷◌}
 use Prim.Native.Nat.{ℕ, ◌+◌, ◌*◌, ◌%◌}
 use native.Mathlib.Omega.{arith}
@@ -12,7 +12,7 @@ use Rattle.model.specs.declared.SectorSize.{SectorSize}
 use Rattle.model.specs.declared.Segment.{Segment}
 use Rattle.model.proofs.Base.{and_left, and_right}
 use Rattle.ranges.proofs.DiskRange.{aligned-one, aligned-all}
-use Rattle.segments.proofs.Slot.{length-segments, within-ordered, within-last, within-sectors, within-total}
+use Rattle.segments.proofs.Slot.{all_next, all_end, length-segments, within-ordered, within-last, within-sectors, within-total}
 
 -- every sector is a boundary where the disk's are a request's
 pub one-all : (z : SectorSize) (ss : List Segment) → unit_of z ≡ 1 → all (is_on_boundaries z) ss ≡ true
@@ -65,6 +65,13 @@ module _ (z : SectorSize) where
       by : (b : Bool) → all (is_on_boundaries z) ss ≡ b → b ≡ false
       by true e = absurd (d (only-whole-all ss u w e))
       by false e = refl
+
+pub ends : (z : SectorSize) (s : Segment) → is_on_boundaries z s ≡ is_aligned z s.first && is_aligned z (s.last + 1)
+unfolding is_on_boundaries
+ends z s = refl
+
+-- what a loop over the segments tells
+pub ruleset by_segment = (all_next, all_end, ends)
 
 -- what a count of the sectors tells, for the automatic steps
 pub ruleset by_count = (one-all, whole-all, not-whole, length-segments)

@@ -19,6 +19,7 @@ use Rattle.model.specs.Backend.{Backend, empty_backend, view_of, with_port, with
 use Rattle.model.specs.declared.Abi.{Abi}
 use Rattle.model.specs.declared.Pages.{Pages}
 use Rattle.model.specs.declared.Params.{Params}
+use Rattle.model.specs.declared.Refusal.{Refusal}
 use Rattle.model.specs.declared.State.{State}
 use Rattle.model.specs.declared.Status.{Status}
 use Rattle.cases.proofs.Buffers.{header, asking}
@@ -177,7 +178,7 @@ record Once (s : Shape) : Type 0 where
   -- an empty list writes nothing and tells nothing
   empty : effect s 1 [] ≡ record { rings = lent s 1; answer = all_done (port_id 1) [] false }
   -- one wrong entry, the last: nothing is done
-  refused : effect s 1 wrong ≡ record { rings = lent s 1; answer = none_done 6 }
+  refused : effect s 1 wrong ≡ record { rings = lent s 1; answer = none_done Refusal.NotBusy }
   kept : port_after s wrong ≡
       record {
         produced = 0xfffffffe;
@@ -185,10 +186,10 @@ record Once (s : Shape) : Type 0 where
         tags = keeps 0x1122334455667701 0 0xfffffffe ∷ keeps 0x1122334455667702 1 0xffffffff ∷ keeps 0x1122334455667703 0 0 ∷ [];
       }
   -- a tag named twice; entries that are not whole; as many as there may be, and one more
-  twice : answer s 1 (2 ∷ 0 ∷ 7 ∷ 0 ∷ 0xfffffffe ∷ 8 ∷ 2 ∷ 0 ∷ 7 ∷ []) ≡ none_done 6
-  torn : answer s 1 (2 ∷ 0 ∷ []) ≡ none_done 1
-  most : answer s 1 (replicate 192 0) ≡ none_done 6
-  too_many : answer s 1 (replicate 195 0) ≡ none_done 7
+  twice : answer s 1 (2 ∷ 0 ∷ 7 ∷ 0 ∷ 0xfffffffe ∷ 8 ∷ 2 ∷ 0 ∷ 7 ∷ []) ≡ none_done Refusal.NotBusy
+  torn : answer s 1 (2 ∷ 0 ∷ []) ≡ none_done Refusal.WrongLength
+  most : answer s 1 (replicate 192 0) ≡ none_done Refusal.NotBusy
+  too_many : answer s 1 (replicate 195 0) ≡ none_done Refusal.TooMany
 
 record Shapes : Type 0 where
   one_of64 : Computed one64 in64

@@ -6,6 +6,7 @@ use mathlib.Core.Option.{Option, none, some}
 use Prim.Native.Nat.{ℕ, zero, suc, ◌+◌, ◌*◌}
 use lib.IntN.{pos, negsuc}
 use lib.ListN.{drop, replicate}
+use Rattle.std.specs.Prelude.{Result, Ok, Err}
 use Rattle.wire.specs.LittleEndian.{load, store}
 use Rattle.wire.specs.Part.{part, set_part}
 use Rattle.model.specs.Base.{all, same, least, tally}
@@ -24,8 +25,10 @@ use Rattle.model.specs.History.{Response, Book, asked, said as said_in, answer_t
 use Rattle.model.specs.Answers.{turned_number, turned_words, completed_number, done_left, reply_number}
 use Rattle.model.specs.declared.Pair.{Pair}
 use Rattle.model.specs.declared.Port.{Port}
+use Rattle.model.specs.declared.Refusal.{Refusal}
 use Rattle.model.specs.declared.State.{State}
 use Rattle.model.specs.declared.Status.{Status}
+use Rattle.model.specs.declared.Turned.{Turned}
 use Rattle.cases.proofs.Buffers.{sheet, sheet32, sheet_two, sheet32_two, header, asking, page64, page32, grants, words, rings}
 
 -- ---- buffers
@@ -123,10 +126,15 @@ abbrev say : ℕ → List ℕ → Said
 say zero values = done values
 say (suc n) values = refused (suc n)
 
+-- a refused turn has no values (rule 1.14)
+abbrev turned_values : Result Turned Refusal → List ℕ
+turned_values (Ok did) = turned_words did
+turned_values (Err why) = []
+
 abbrev said_by : (c : Call) → Effect c → Said
 said_by (Open p s) e = say (reply_number e) []
 said_by (Close p) e = say (reply_number e) []
-said_by (Turn r g w) e = say (turned_number e.answer) (turned_words e.answer)
+said_by (Turn r g w) e = say (turned_number e.answer) (turned_values e.answer)
 said_by (Complete r p entries) e = say (completed_number e.answer) (done_left e.answer [])
 
 -- in the order of the calls, before those already looked at

@@ -1,3 +1,2 @@
 pub mod Steps
 pub mod Reasons
-pub mod OperationReasons

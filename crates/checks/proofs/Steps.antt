@@ -6,55 +6,55 @@ use Prim.Native.Nat.{ℕ, zero, suc}
 use native.Mathlib.Omega.{arith}
 use lib.ListN.{get_or}
 use Rattle.model.specs.Ring.{Request}
-use Rattle.model.specs.Checks.{moves_nothing, count_of, data_segments, Check, check, operation_checks, segment_checks, disk_checks, checks, first_failed}
+use Rattle.std.specs.Prelude.{Ok, Err}
+use Rattle.model.specs.Checks.{moves_nothing, count_of, data_segments, Check, check, operation_checks, segment_checks, disk_checks, checks, Checked, fault, first_failed}
 use Rattle.model.specs.Plan.{plan_of, decided, verdict_of}
-use Rattle.model.specs.declared.Checked.{Checked}
 use Rattle.model.specs.declared.Params.{Params}
 use Rattle.model.specs.declared.Plan.{Plan}
+use Rattle.model.specs.declared.Reason.{Reason}
 use Rattle.model.specs.declared.Status.{Status}
-use Rattle.model.specs.declared.Verdict.{Verdict}
 
 -- ---- where all pass, none fails
 
 abbrev passing : Check
-passing = check 0 Status.Okay false
+passing = check Reason.UnknownOperation Status.Okay false
 
-pub none-fails : (cs : List Check) (k : ℕ) → first_failed cs ≡ Checked.Passed → (get_or cs k passing).fails ≡ false
+pub none-fails : (cs : List Check) (k : ℕ) → first_failed cs ≡ Ok tt → (get_or cs k passing).fails ≡ false
 none-fails [] k e = refl
 none-fails (c ∷ cs) zero e = here c.fails e
   where
-    here : (b : Bool) → cond b (Checked.Refused c.reason c.status) (first_failed cs) ≡ Checked.Passed → b ≡ false
-    here true z = let y : ◌≡◌ {A = ℕ} 0 1 = cc in absurd (omega arith)
+    here : (b : Bool) → cond b (Err (fault c)) (first_failed cs) ≡ Ok tt → b ≡ false
+    here true z = cc
     here false z = refl
 none-fails (c ∷ cs) (suc k) e = none-fails cs k (later c.fails e)
   where
-    later : (b : Bool) → cond b (Checked.Refused c.reason c.status) (first_failed cs) ≡ Checked.Passed → first_failed cs ≡ Checked.Passed
-    later true z = let y : ◌≡◌ {A = ℕ} 0 1 = cc in absurd (omega arith)
+    later : (b : Bool) → cond b (Err (fault c)) (first_failed cs) ≡ Ok tt → first_failed cs ≡ Ok tt
+    later true z = cc
     later false z = z
 
 -- a start passed every check, and its plan is the request's
-pub all-passed : (p : Params) (grants : List ℕ) (r : Request) (plan : Plan) → verdict_of p grants r ≡ Verdict.Start plan
-    → (first_failed (checks p grants r) ≡ Checked.Passed) × (plan_of p r ≡ plan)
+pub all-passed : (p : Params) (grants : List ℕ) (r : Request) (plan : Plan) → verdict_of p grants r ≡ Ok plan
+    → (first_failed (checks p grants r) ≡ Ok tt) × (plan_of p r ≡ plan)
 unfolding verdict_of
 all-passed p grants r plan e = go (first_failed (checks p grants r)) refl e
   where
-    go : (k : Checked) → first_failed (checks p grants r) ≡ k → decided (plan_of p r) k ≡ Verdict.Start plan
-        → (first_failed (checks p grants r) ≡ Checked.Passed) × (plan_of p r ≡ plan)
-    go Checked.Passed h z = (h, cc)
-    go (Checked.Refused n s) h z = let y : ◌≡◌ {A = ℕ} 0 1 = cc in absurd (omega arith)
+    go : (k : Checked) → first_failed (checks p grants r) ≡ k → decided (plan_of p r) k ≡ Ok plan
+        → (first_failed (checks p grants r) ≡ Ok tt) × (plan_of p r ≡ plan)
+    go (Ok passed) h z = (h, cc)
+    go (Err f) h z = let y : ◌≡◌ {A = ℕ} 0 1 = cc in absurd (omega arith)
 
 -- ---- one step after another
 
 abbrev pub and_then : Checked → Checked → Checked
-and_then Checked.Passed k = k
-and_then (Checked.Refused n s) k = Checked.Refused n s
+and_then (Ok passed) k = k
+and_then (Err f) k = Err f
 
 first-append : (xs ys : List Check) → first_failed (xs ++ ys) ≡ and_then (first_failed xs) (first_failed ys)
 first-append [] ys = refl
 first-append (c ∷ cs) ys = rw (first-append cs ys) (spread c.fails)
   where
-    spread : (b : Bool) → cond b (Checked.Refused c.reason c.status) (and_then (first_failed cs) (first_failed ys))
-        ≡ and_then (cond b (Checked.Refused c.reason c.status) (first_failed cs)) (first_failed ys)
+    spread : (b : Bool) → cond b (Err (fault c)) (and_then (first_failed cs) (first_failed ys))
+        ≡ and_then (cond b (Err (fault c)) (first_failed cs)) (first_failed ys)
     spread true = refl
     spread false = refl
 

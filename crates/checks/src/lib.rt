@@ -3,4 +3,4 @@
 
 mod operations;
 
-pub use operations::operation_reason;
+pub use operations::check_operation;

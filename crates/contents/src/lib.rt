@@ -1,17 +1,21 @@
 // The table of contents of a sheet: whether refusal 11 or 12 is due, and what it says of each entry.
 #![tactic(auto)]
 
-ghost use Rattle.std.specs.Prelude.{◌≡◌, ◌+◌, ◌*◌, ◌<◌, ◌≤◌, length, get_or};
+ghost use Rattle.std.specs.Prelude.{◌≡◌, ◌+◌, ◌<◌, ◌≤◌, ℕ, length, get_or, sum_by, []};
 ghost use Rattle.model.specs.Base.{all};
-ghost use Rattle.model.specs.NodeSheet.{entry_at, body_length, entries_of, bodies_end, well_formed, rising, present};
-ghost use Rattle.contents.specs.Contents.{Contents, is_clear};
+ghost use Rattle.model.specs.NodeSheet.{entry_at, entry_count, entries_of, bodies_end, well_formed, rising, present};
+ghost use Rattle.contents.specs.Contents.{Contents, is_clear, length_of, entries_in};
 
 use model::node::RING_PAGE_ORDER;
+use wire::Integer;
 
-// The entries begin after the byte that counts them, and have four bytes each: the node, one that is reserved, and two of the body's length.
-pub const ENTRIES: usize = 1;
+// The entries begin after the byte that counts them, and have four bytes each: the node, one that is reserved, and two
+// of the body's length.
+const ENTRIES: usize = 1;
 
-pub const ENTRY: usize = 4;
+const ENTRY: usize = 4;
+
+const NODE: usize = 0;
 
 const RESERVED: usize = 1;
 
@@ -19,125 +23,100 @@ const LENGTH: usize = 2;
 
 const MOST_ENTRIES: usize = RING_PAGE_ORDER;
 
+// A sheet that has its table of contents: the entries, and the bodies behind them.
+#[derive(Clone, Copy)]
+pub struct Table<'a> {
+    pub entries: &'a [[u8; ENTRY]],
+    pub bodies: &'a [u8],
+    ghost few: { length entries.now ≤ 9 },
+}
+
+// The node of an entry.
+pub fn node_of(entry: &[u8; ENTRY]) -> usize
+    ensures { result ≡ get_or entry.now 0 0 }
+{
+    usize::from(entry[NODE])
+}
+
+// The length of an entry's body.
+pub fn length_of(entry: &[u8; ENTRY]) -> usize
+    ensures value { result ≡ length_of entry.now }
+    ensures below { result < 65536 }
+{
+    usize::from(u16::load(entry, LENGTH))
+}
+
 // How many entries the sheet says it has.
-pub fn entry_count(sheet: &[u8]) -> usize
+fn entry_count(sheet: &[u8]) -> usize
     requires { 0 < length sheet.now }
-    ensures { result ≡ get_or sheet.now 0 0 }
+    ensures { result ≡ entry_count sheet.now }
 {
-    sheet[0] as usize
+    usize::from(sheet[0])
 }
 
-// The parts of entry i, which lies in the sheet: its node, its reserved byte, its body's length.
-#[tactic(auto, unfolding(model::specs::NodeSheet::entry_at))]
-pub fn node_at(sheet: &[u8], i: usize) -> usize
-    requires { 5 + 4 * i ≤ length sheet.now }
-    ensures { result ≡ get_or sheet.now (entry_at i) 0 }
-{
-    sheet[ENTRIES + ENTRY * i] as usize
-}
+impl<'a> Table<'a> {
+    pub fn of(sheet: &'a [u8]) -> Table<'a>
+        requires { Contents sheet.now }
+        ensures entries { entries_in result.entries.now result.bodies.now ≡ entries_of sheet.now }
+        ensures end { entry_at (entry_count sheet.now) + sum_by length_of result.entries.now
+            ≡ bodies_end (entry_count sheet.now) sheet.now 0 (entry_at (entry_count sheet.now)) }
+        ensures bytes { (i j : ℕ) → i < entry_count sheet.now → j < 4 → get_or (get_or result.entries.now i []) j 0 ≡ get_or sheet.now (entry_at i + j) 0 }
+        ensures whole { entry_at (entry_count sheet.now) + length result.bodies.now ≡ length sheet.now }
+    {
+        let (table, bodies) = sheet[ENTRIES..].split_at(ENTRY * entry_count(sheet));
+        let (entries, _) = table.as_chunks::<ENTRY>();
+        Table { entries, bodies }
+    }
 
-#[tactic(auto, unfolding(model::specs::NodeSheet::entry_at))]
-fn reserved_at(sheet: &[u8], i: usize) -> u8
-    requires { 5 + 4 * i ≤ length sheet.now }
-    ensures { result ≡ get_or sheet.now (entry_at i + 1) 0 }
-{
-    sheet[ENTRIES + ENTRY * i + RESERVED]
-}
+    // Whether no entry has a reserved byte set.
+    fn reserved_clear(&self) -> bool
+        ensures { result ≡ all is_clear (entries_in self.now.entries.now self.now.bodies.now) }
+    {
+        self.entries.iter().all(|entry| entry[RESERVED] == 0)
+    }
 
-#[tactic(auto, unfolding(model::specs::NodeSheet::body_length, model::specs::NodeSheet::entry_at))]
-pub fn body_length(sheet: &[u8], i: usize) -> usize
-    requires { 5 + 4 * i ≤ length sheet.now }
-    ensures { (result ≡ body_length sheet.now i) × (result < 65536) }
-{
-    wire::u16_at(sheet, ENTRIES + ENTRY * i + LENGTH) as usize
-}
+    // How long the bodies are, if they have the lengths that the entries say.
+    fn total_length(&self) -> usize
+        ensures { result ≡ sum_by length_of self.now.entries.now }
+    {
+        self.entries.iter().map(length_of).sum()
+    }
 
-// Whether no entry has a reserved byte set.
-fn reserved_clear(sheet: &[u8]) -> bool
-    requires { Contents sheet.now }
-    ensures { result ≡ all is_clear (entries_of sheet.now) }
-{
-    let count = entry_count(sheet);
-    let mut i = 0;
-    while i < count {
-        if reserved_at(sheet, i) != 0 {
-            return false;
+    // Refusal 12 is due where this is false.
+    #[tactic(auto, using(crate::proofs::Entries::rises))]
+    pub fn nodes_rise(&self) -> bool
+        ensures { result ≡ rising 0 (entries_in self.now.entries.now self.now.bodies.now) }
+    {
+        let mut before = 0;
+        for entry in self.entries {
+            let node = node_of(entry);
+            if node <= before || node > RING_PAGE_ORDER {
+                return false;
+            }
+            before = node;
         }
-        i += 1;
+        true
     }
-    true
-}
 
-// Where the bodies end, if they have the lengths that the entries say.
-#[tactic(auto, unfolding(model::specs::NodeSheet::entry_at))]
-fn bodies_end(sheet: &[u8]) -> usize
-    requires { Contents sheet.now }
-    ensures { result ≡ bodies_end (get_or sheet.now 0 0) sheet.now 0 (entry_at (get_or sheet.now 0 0)) }
-{
-    let count = entry_count(sheet);
-    let mut end = ENTRIES + ENTRY * count;
-    let mut i = 0;
-    while i < count {
-        end += body_length(sheet, i);
-        i += 1;
+    // Whether a node has an entry.
+    pub fn has_node(&self, node: usize) -> bool
+        ensures { result ≡ present node (entries_in self.now.entries.now self.now.bodies.now) }
+    {
+        self.entries.iter().any(|entry| node_of(entry) == node)
     }
-    end
 }
 
 // Refusal 11 is due where this is false. A table of contents that is cut short is a wrong total length.
+#[tactic(auto, using(crate::proofs::Entries::formed))]
 pub fn well_formed(sheet: &[u8]) -> bool
     ensures { result ≡ well_formed sheet.now }
 {
-    if sheet.len() == 0 {
+    if sheet.is_empty() || entry_count(sheet) > MOST_ENTRIES {
         return false;
     }
-    let count = entry_count(sheet);
-    if count > MOST_ENTRIES {
+    if sheet.len() < ENTRIES + ENTRY * entry_count(sheet) {
         return false;
     }
-    if sheet.len() < ENTRIES + ENTRY * count {
-        return false;
-    }
-    if !reserved_clear(sheet) {
-        return false;
-    }
-    bodies_end(sheet) == sheet.len()
-}
-
-// Refusal 12 is due where this is false.
-pub fn nodes_rise(sheet: &[u8]) -> bool
-    requires { Contents sheet.now }
-    ensures { result ≡ rising 0 (entries_of sheet.now) }
-{
-    let count = entry_count(sheet);
-    let mut before = 0;
-    let mut i = 0;
-    while i < count {
-        let node = node_at(sheet, i);
-        if node <= before {
-            return false;
-        }
-        if node > RING_PAGE_ORDER {
-            return false;
-        }
-        before = node;
-        i += 1;
-    }
-    true
-}
-
-// Whether a node has an entry.
-pub fn has_node(sheet: &[u8], node: usize) -> bool
-    requires { Contents sheet.now }
-    ensures { result ≡ present node (entries_of sheet.now) }
-{
-    let count = entry_count(sheet);
-    let mut i = 0;
-    while i < count {
-        if node_at(sheet, i) == node {
-            return true;
-        }
-        i += 1;
-    }
-    false
+    let table = Table::of(sheet);
+    table.reserved_clear() && table.total_length() == table.bodies.len()
 }

@@ -2,12 +2,11 @@
 #![tactic(auto)]
 
 ghost use Rattle.std.specs.Prelude.{◌≡◌};
-ghost use Rattle.model.specs.Counters.{status_counter, turn_taken, turn_status, raised_by, after_turned, after_completed};
-ghost use Rattle.model.specs.declared.Counters.{Counters};
+ghost use Rattle.model.specs.Counters.{status_counter, turn_taken, turn_status, after_turned, after_completed};
 ghost use Rattle.model.specs.Complete.{of_one};
 
 use counters::raised;
-use model::{Completed, Counter, Counters, Status, Turned};
+use model::{Completed, Counter, Counters, Refusal, Status, Turned};
 
 // The number of a status.
 fn of_status(status: Status) -> Counter
@@ -21,50 +20,38 @@ fn of_status(status: Status) -> Counter
 }
 
 // taken, where the turn took a request.
-fn taken_by(turned: Turned) -> Counter
+fn taken_by(turned: Result<Turned, Refusal>) -> Option<Counter>
     ensures { result ≡ turn_taken turned }
 {
     match turned {
-        Turned::Refused(_) => Counter::Nothing,
-        Turned::Idle => Counter::Nothing,
-        Turned::Overrun(_) => Counter::Nothing,
-        Turned::Started(_, _, _, _) => Counter::Taken,
-        Turned::Answered(_, _, _, _) => Counter::Taken,
+        Err(_) | Ok(Turned::Idle | Turned::Overrun(_)) => None,
+        Ok(Turned::Started(..) | Turned::Answered(..)) => Some(Counter::Taken),
     }
 }
 
 // The number of the status, where the turn answered.
-fn answered_by(turned: Turned) -> Counter
+fn answered_by(turned: Result<Turned, Refusal>) -> Option<Counter>
     ensures { result ≡ turn_status turned }
 {
     match turned {
-        Turned::Refused(_) => Counter::Nothing,
-        Turned::Idle => Counter::Nothing,
-        Turned::Overrun(_) => Counter::Nothing,
-        Turned::Started(_, _, _, _) => Counter::Nothing,
-        Turned::Answered(_, _, status, _) => of_status(status),
+        Err(_) | Ok(Turned::Idle | Turned::Overrun(_) | Turned::Started(..)) => None,
+        Ok(Turned::Answered(_, fault, _)) => Some(of_status(fault.status)),
     }
 }
 
-pub fn after_turn(counters: Counters, turned: Turned) -> Counters
+pub fn after_turn(counters: Counters, turned: Result<Turned, Refusal>) -> Counters
     ensures { result ≡ after_turned turned counters }
 {
     let taken = raised(counters, taken_by(turned));
     raised(taken, answered_by(turned))
 }
 
-// The number that a completion of one request raises.
-fn completed_by(completed: Completed) -> Counter
-    ensures { (c : Counters) → raised_by result c ≡ after_completed (of_one completed) c }
-{
-    match completed {
-        Completed::Refused(_) => Counter::Nothing,
-        Completed::Done(_, status, _) => of_status(status),
-    }
-}
-
-pub fn after_completion(counters: Counters, completed: Completed) -> Counters
+// A completion of one request raises the number of its status.
+pub fn after_completion(counters: Counters, completed: Result<Completed, Refusal>) -> Counters
     ensures { result ≡ after_completed (of_one completed) counters }
 {
-    raised(counters, completed_by(completed))
+    match completed {
+        Ok(done) => raised(counters, Some(of_status(done.status))),
+        Err(_) => counters,
+    }
 }

@@ -1,9 +1,10 @@
-// A list of completions, by what the call returned and the words that it left, whatever they are: each status raises its number.
+// A list of completions, by what the call returned and the words that it left, whatever they are: each status raises
+// its number.
 ghost use Rattle.std.specs.Prelude.{◌≡◌, map, ◌+◌, ◌≤◌, min, length, take, drop};
 ghost use Rattle.model.specs.Calls.{most_completions};
 ghost use Rattle.model.specs.Counters.{word_counter, raised_by_all, many_metered};
 
-use crate::record::raised;
+use crate::place::raise;
 use completion_answers::many::{MANY_COUNT, MANY_STATUSES};
 use counter_words::{DONE, of_word};
 use model::Counters;
@@ -11,16 +12,13 @@ use model::buffer::MANY_WORDS;
 use model::limit::MOST_COMPLETIONS;
 
 // The record raised by one status after another.
-fn raised_by_each(counters: Counters, statuses: &[u64]) -> Counters
+fn raised_by_each(mut counters: Counters, statuses: &[u64]) -> Counters
     ensures { result ≡ raised_by_all (map word_counter statuses.now) counters }
 {
-    let mut after = counters;
-    let mut i: usize = 0;
-    while i < statuses.len() {
-        after = raised(after, of_word(statuses[i]));
-        i += 1;
+    for status in statuses {
+        raise(&mut counters, of_word(*status));
     }
-    after
+    counters
 }
 
 // By the first n statuses among the words of an answer.
@@ -36,10 +34,7 @@ fn raised_by_first(counters: Counters, words: &[u64], n: usize) -> Counters
 fn listed(count: u64) -> usize
     ensures { result ≡ min most_completions count }
 {
-    if count < MOST_COMPLETIONS as u64 {
-        return count as usize;
-    }
-    MOST_COMPLETIONS
+    count.min(MOST_COMPLETIONS as u64) as usize
 }
 
 // The record raised by the statuses of an answer. Of a refused call no word is looked at.

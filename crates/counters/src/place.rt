@@ -1,19 +1,21 @@
-// The record where it stands: the host lends it, and one field of it is raised.
+// The record where it stands: the host lends it, and one field of it is raised, or none. A number that got to the top
+// stays there (rule 15.2).
 ghost use Rattle.std.specs.Prelude.{◌≡◌};
 ghost use Rattle.model.specs.Counters.{raised_by};
 
-use crate::record::raised;
 use model::{Counter, Counters};
 
-pub fn raise(counters: &mut Counters, which: Counter)
+#[tactic(auto, unfolding(model::specs::Counters::one_more_of))]
+pub fn raise(counters: &mut Counters, which: Option<Counter>)
     ensures { counters.new ≡ raised_by which counters.old }
 {
-    let after = raised(*counters, which);
     match which {
-        Counter::Taken => counters.taken = after.taken,
-        Counter::Okay => counters.okay = after.okay,
-        Counter::Error => counters.error = after.error,
-        Counter::NotSupported => counters.unsupported = after.unsupported,
-        Counter::Nothing => {}
+        Some(Counter::Taken) => counters.taken = counters.taken.saturating_add(1),
+        Some(Counter::Okay) => counters.okay = counters.okay.saturating_add(1),
+        Some(Counter::Error) => counters.error = counters.error.saturating_add(1),
+        Some(Counter::NotSupported) => {
+            counters.unsupported = counters.unsupported.saturating_add(1)
+        }
+        None => {}
     }
 }

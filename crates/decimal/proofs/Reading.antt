@@ -1,21 +1,29 @@
 -- The laws of reading: what is left of a text, where some of its bytes were read in one step. Assumes nothing.
-use mathlib.Core.Path.{◌≡◌, refl, sym, ◌∙◌}
+use mathlib.Core.Path.{◌≡◌, refl, sym, ap, ◌∙◌}
 use mathlib.Core.Bool.{true, false}
 use mathlib.Core.List.{List, [], ◌∷◌, ◌++◌}
-use Prim.Native.Nat.{ℕ, ◌+◌, ◌-◌, ◌*◌, ◌^◌, ◌<◌, ◌≤◌}
-use native.Mathlib.Nat.{mul-le-mul_left, pow-le-pow_right}
+use Prim.Native.Nat.{ℕ, zero, suc, ◌+◌, ◌*◌, ◌/◌, ◌^◌, ◌<◌, ◌≤◌}
 use native.Mathlib.Omega.{arith}
-use lib.Dec.{leb}
-use lib.ListN.{length, get_or, take, drop, length-drop, take-append-drop}
-use lib.Seq.{take_all, drop-drop}
-use borrow.Author.Tests.{eq-eqb, ne_eqb, leb-true}
-use Rattle.wire.specs.Part.{part}
-use Rattle.wire.proofs.Part.{length_part}
+use lib.ListN.{length, get_or, take, drop, drop_of_length-le, length-drop, length-take, take-append-drop}
+use lib.Seq.{drop-drop}
+use borrow.Author.Tests.{lt-ltb, le-ltb, eq-eqb, ne_eqb}
+use Rattle.std.specs.Prelude.{Ok, Err}
+use Rattle.std.specs.Simd.{first_chunks}
 use Rattle.model.specs.Base.{all}
-use Rattle.model.specs.NodeSheet.{is_digit, digits_from, digits_of, number_of}
-use Rattle.model.specs.declared.Number.{Number}
+use Rattle.model.specs.NodeSheet.{is_digit, digits_from, digits_of, number_of, capped}
+use Rattle.model.specs.declared.NumberError.{NumberError}
 use Rattle.decimal.specs.Digits.{digits_after}
-use Rattle.digits.proofs.Digits.{too-big, in-range, grows, digits-after, digits_append, all_append, digit-part, value-part}
+use Rattle.digits.proofs.Digits.{grows, digits-after, digits_append, all_append}
+
+-- ---- a value
+
+too-big : (v : ℕ) → 2 ^ 64 ≤ v → capped v ≡ Err NumberError.TooBig
+unfolding capped
+too-big v h = rw (le-ltb v (2 ^ 64) h)
+
+in-range : (v : ℕ) → v < 2 ^ 64 → capped v ≡ Ok v
+unfolding capped
+in-range v h = rw (lt-ltb v (2 ^ 64) h)
 
 -- ---- the beginning and the end
 
@@ -23,13 +31,17 @@ pub read_all : (text : List ℕ) → digits_after 0 text ≡ digits_of text
 unfolding digits_after digits_of
 read_all text = refl
 
-pub read-end : (v : ℕ) → v < 2 ^ 64 → digits_after v [] ≡ Number.Value v
-unfolding digits_after all digits_from
-read-end v h = in-range v h
+-- ---- some digits read in one step, before the rest
 
-pub big-end : digits_after (2 ^ 64) [] ≡ Number.TooBig
-unfolding digits_after all digits_from
-big-end = too-big (2 ^ 64) (omega arith)
+module _ (ds es : List ℕ) where
+  after_digits : all is_digit ds ≡ true → (v : ℕ) → digits_after v (ds ++ es) ≡ digits_after (digits_from v ds) es
+  unfolding digits_after
+  after_digits h v = rw (all_append ds es, h, digits_append ds es v)
+
+  -- a byte among them that is no digit ends it
+  after_none : all is_digit ds ≡ false → (v : ℕ) → digits_after v (ds ++ es) ≡ Err NumberError.NotANumber
+  unfolding digits_after
+  after_none h v = rw (all_append ds es, h)
 
 -- by how much a number is too big does not matter
 big-alike : (text : List ℕ) (v : ℕ) → 2 ^ 64 ≤ v → digits_after v text ≡ digits_after (2 ^ 64) text
@@ -37,71 +49,95 @@ unfolding digits_after
 big-alike text v h =
     rw (too-big (digits_from v text) (omega (arith, h, grows text v)), too-big (digits_from (2 ^ 64) text) (omega (arith, grows text (2 ^ 64))))
 
--- ---- what is left to read
-
--- a part, and what comes after it
-part-rest : (m : ℕ) (text : List ℕ) (i : ℕ) → drop i text ≡ part m text i ++ drop (i + m) text
-unfolding part
-part-rest m text i = rw (← drop-drop m i text) (sym (take-append-drop m (drop i text)))
-
--- the part from i to the end
-pub rest_part : (text : List ℕ) (i : ℕ) → take (length text - i) (drop i text) ≡ drop i text
-rest_part text i = take_all (length text - i) (drop i text) (simp length-drop (omega arith))
-
-pub rest-length : (text : List ℕ) (i : ℕ) → length (take (length text - i) (drop i text)) ≡ length text - i
-rest-length text i = rw (rest_part text i) (length-drop i text)
-
--- m digits read in one step: after a value, after one that is too big, and where they make it too big
-module _ (m : ℕ) (text : List ℕ) (i : ℕ) (l : i + m ≤ length text) (h : all is_digit (part m text i) ≡ true) where
-  pub read-several : (v : ℕ) → digits_after v (drop i text) ≡ digits_after (v * 10 ^ m + digits_from 0 (part m text i)) (drop (i + m) text)
-  unfolding digits_after
-  read-several v =
-      rw (part-rest m text i, all_append (part m text i) (drop (i + m) text), h, digits_append (part m text i) (drop (i + m) text) v, digits-after (part m text i) v, length_part m text i l)
-
-  pub big-several : digits_after (2 ^ 64) (drop i text) ≡ digits_after (2 ^ 64) (drop (i + m) text)
-  big-several =
-      let more = mul-le-mul_left (2 ^ 64) (pow-le-pow_right {n = 10} (omega arith) {i = 0} {j = m} (omega arith)) in
-      read-several (2 ^ 64) ∙ big-alike (drop (i + m) text) _ (omega (arith, more))
-
-  pub read-too-big : (v : ℕ)
-      → leb (2 ^ 64) (v * 10 ^ m + digits_from 0 (part m text i)) ≡ true
-      → digits_after v (drop i text) ≡ digits_after (2 ^ 64) (drop i text)
-  read-too-big v e = read-several v ∙ big-alike (drop (i + m) text) _ (leb-true (2 ^ 64) _ e) ∙ sym big-several
-
--- a byte among m that is no digit ends it
-pub read_none : (m : ℕ) (text : List ℕ) (i : ℕ) → all is_digit (part m text i) ≡ false → (v : ℕ) → digits_after v (drop i text) ≡ Number.NotANumber
+-- a number that is too big stays so with all the digits that come
+pub big-digits : (text : List ℕ) → all is_digit text ≡ true → digits_after (2 ^ 64) text ≡ Err NumberError.TooBig
 unfolding digits_after
-read_none m text i h v = rw (part-rest m text i, all_append (part m text i) (drop (i + m) text), h)
+big-digits text h = rw (h, too-big (digits_from (2 ^ 64) text) (grows text (2 ^ 64)))
 
--- one byte
-module _ (text : List ℕ) (i : ℕ) (l : i < length text) (v : ℕ) where
-  pub read_one : is_digit (get_or text i 0) ≡ true → digits_after v (drop i text) ≡ digits_after (v * 10 + (get_or text i 0 - 48)) (drop (i + 1) text)
-  read_one h = rw (← value-part text i l) (read-several 1 text i (omega arith) (digit-part text i l ∙ h) v)
+pub big-none : (text : List ℕ) → all is_digit text ≡ false → digits_after (2 ^ 64) text ≡ Err NumberError.NotANumber
+unfolding digits_after
+big-none text h = rw h
 
-  pub one_none : is_digit (get_or text i 0) ≡ false → digits_after v (drop i text) ≡ Number.NotANumber
-  one_none h = read_none 1 text i (digit-part text i l ∙ h) v
+pub ruleset from_big = (big-digits, big-none)
+
+-- ---- the bytes that make no whole eight
+
+module _ (text ones eights : List ℕ) (both : text ≡ ones ++ eights) where
+  pub ones_read : all is_digit ones ≡ true → digits_of text ≡ digits_after (digits_from 0 ones) eights
+  ones_read h = sym (read_all text) ∙ rw both (after_digits ones eights h 0)
+
+  pub ones_none : all is_digit ones ≡ false → digits_of text ≡ Err NumberError.NotANumber
+  ones_none h = sym (read_all text) ∙ rw both (after_none ones eights h 0)
+
+pub ruleset from_ones = (ones_read, ones_none)
+
+-- ---- the eights
+
+-- they are the parts of the text
+eight_at : (n : ℕ) (text : List ℕ) (i : ℕ) → i < n → get_or (first_chunks 8 n text) i [] ≡ take 8 (drop (8 * i) text)
+eight_at zero text i h = absurd (omega arith)
+eight_at (suc n) text zero h = refl
+eight_at (suc n) text (suc i) h =
+    eight_at n (drop 8 text) i (omega arith) ∙ ap (take 8) (drop-drop (8 * i) 8 text ∙ ap (λ k. drop k text) (omega arith))
+
+module _ (text : List ℕ) (i : ℕ) (l : i < length text / 8) where
+  abbrev here : List ℕ
+  here = get_or (first_chunks 8 (length text / 8) text) i []
+
+  here-length : length here ≡ 8
+  here-length = rw (eight_at (length text / 8) text i l) (simp (length-take, length-drop) (omega arith))
+
+  here-rest : drop (8 * i) text ≡ here ++ drop (8 * (i + 1)) text
+  here-rest =
+      let place : 8 * (i + 1) ≡ 8 * i + 8 = omega arith in
+      rw (eight_at (length text / 8) text i l, place, ← drop-drop 8 (8 * i) text) (sym (take-append-drop 8 (drop (8 * i) text)))
+
+  module _ (h : all is_digit here ≡ true) where
+    pub eight_read : (v : ℕ) → digits_after v (drop (8 * i) text) ≡ digits_after (v * 10 ^ 8 + digits_from 0 here) (drop (8 * (i + 1)) text)
+    eight_read v =
+        rw here-rest (after_digits here (drop (8 * (i + 1)) text) h v)
+        ∙ ap (λ d. digits_after d (drop (8 * (i + 1)) text)) (rw here-length at (digits-after here v))
+
+    pub eight_big : digits_after (2 ^ 64) (drop (8 * i) text) ≡ digits_after (2 ^ 64) (drop (8 * (i + 1)) text)
+    eight_big = eight_read (2 ^ 64) ∙ big-alike (drop (8 * (i + 1)) text) _ (omega arith)
+
+    pub eight_too_big : (v : ℕ) → 2 ^ 64 ≤ v * 10 ^ 8 + digits_from 0 here → digits_after v (drop (8 * i) text) ≡ digits_after (2 ^ 64) (drop (8 * i) text)
+    eight_too_big v e = eight_read v ∙ big-alike (drop (8 * (i + 1)) text) _ e ∙ sym eight_big
+
+  pub eight_none : all is_digit here ≡ false → (v : ℕ) → digits_after v (drop (8 * i) text) ≡ Err NumberError.NotANumber
+  eight_none h v = rw here-rest (after_none here (drop (8 * (i + 1)) text) h v)
+
+pub eight_end : (text : List ℕ) (i v : ℕ) → length text ≤ 8 * i → v < 2 ^ 64 → digits_after v (drop (8 * i) text) ≡ Ok v
+unfolding digits_after all digits_from
+eight_end text i v h l =
+    let e : drop (8 * i) text ≡ [] = drop_of_length-le text h in
+    rw e (in-range v l)
+
+pub ruleset from_eights = (eight_read, eight_big, eight_too_big, eight_none, eight_end)
 
 -- ---- what `read_number` tests
 
-pub number-empty : (text : List ℕ) → length text ≡ 0 → Number.NotANumber ≡ number_of text
+pub number_empty : (text : List ℕ) → length text ≡ 0 → number_of text ≡ Err NumberError.NotANumber
 unfolding number_of
-number-empty [] h = refl
-number-empty (d ∷ ds) h = absurd (omega arith)
+number_empty [] h = refl
+number_empty (d ∷ ds) h = absurd (omega arith)
 
-pub number-one : (text : List ℕ) → length text ≡ 1 → digits_of text ≡ number_of text
+pub number_one : (text : List ℕ) → length text ≡ 1 → number_of text ≡ digits_of text
 unfolding number_of
-number-one [] h = absurd (omega arith)
-number-one (d ∷ []) h = refl
-number-one (d ∷ e ∷ ds) h = absurd (omega arith)
+number_one [] h = absurd (omega arith)
+number_one (d ∷ []) h = refl
+number_one (d ∷ e ∷ ds) h = absurd (omega arith)
 
-pub number-zero : (text : List ℕ) → (length text ≡ 0 → ⊥) → (length text ≡ 1 → ⊥) → get_or text 0 0 ≡ 48 → Number.NotANumber ≡ number_of text
+pub number_zero : (text : List ℕ) → 1 < length text → get_or text 0 0 ≡ 48 → number_of text ≡ Err NumberError.NotANumber
 unfolding number_of
-number-zero [] h l z = absurd (h refl)
-number-zero (d ∷ []) h l z = absurd (l refl)
-number-zero (d ∷ e ∷ ds) h l z = rw (eq-eqb d 48 z)
+number_zero [] l z = absurd (omega arith)
+number_zero (d ∷ []) l z = absurd (omega arith)
+number_zero (d ∷ e ∷ ds) l z = rw (eq-eqb d 48 z)
 
-pub number-other : (text : List ℕ) → (length text ≡ 0 → ⊥) → (length text ≡ 1 → ⊥) → (get_or text 0 0 ≡ 48 → ⊥) → digits_of text ≡ number_of text
+pub number_other : (text : List ℕ) → 1 < length text → (get_or text 0 0 ≡ 48 → ⊥) → number_of text ≡ digits_of text
 unfolding number_of
-number-other [] h l z = absurd (h refl)
-number-other (d ∷ []) h l z = absurd (l refl)
-number-other (d ∷ e ∷ ds) h l z = rw (ne_eqb d 48 z)
+number_other [] l z = absurd (omega arith)
+number_other (d ∷ []) l z = absurd (omega arith)
+number_other (d ∷ e ∷ ds) l z = rw (ne_eqb d 48 z)
+
+pub ruleset of_number = (number_empty, number_one, number_zero, number_other)

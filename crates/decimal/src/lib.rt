@@ -1,99 +1,74 @@
 // The decimal reader: what the digits of a text spell.
 #![tactic(auto)]
 
-ghost use Rattle.std.specs.Prelude.{◌≡◌, ◌+◌, ◌*◌, ◌%◌, ◌^◌, ◌<◌, leb, length};
+ghost use Rattle.std.specs.Prelude.{◌≡◌, ◌+◌, ◌*◌, ◌%◌, ◌^◌, ◌≤◌, length, MatchOption};
 ghost use Rattle.model.specs.NodeSheet.{digits_of, number_of};
 ghost use Rattle.decimal.specs.Digits.{digits_after};
 
-use digits::{DIGIT_0, digit, eight_are_digits, eight_digits, is_digit};
-use model::Number;
+use digits::{DIGIT_0, are_digits, value_of};
+use model::NumberError;
 
-const LARGEST: u64 = 18446744073709551615;
+const TEN_TO_THE_8: u64 = 100_000_000;
 
-const TEN_TO_THE_8: u64 = 100000000;
-
-// Whether eight digits of value d after those of value a make a number that is too big. The sum is made only when this says no, so that it never wraps.
-fn is_too_big(a: u64, d: u64) -> bool
-    requires { d < 10 ^ 8 }
-    ensures { result ≡ leb (2 ^ 64) (a * 10 ^ 8 + d) }
+// The number that eight digits of value d make after those of value a, if it is not too big.
+fn after_eight(a: u64, d: u64) -> Option<u64>
+    ensures { MatchOption result (2 ^ 64 ≤ a * 10 ^ 8 + d) (λ v. v ≡ a * 10 ^ 8 + d) }
 {
-    if a < LARGEST / TEN_TO_THE_8 {
-        return false;
-    }
-    if a > LARGEST / TEN_TO_THE_8 {
-        return true;
-    }
-    d > LARGEST % TEN_TO_THE_8
+    a.checked_mul(TEN_TO_THE_8)?.checked_add(d)
 }
 
 // What text makes of a number that is too big, as 2^64 is: digits leave it so, any other byte makes it no number.
-fn big_by_eights(text: &[u8]) -> Number
-    requires { length text.now % 8 ≡ 0 }
+#[tactic(auto, using(crate::proofs::Reading::from_big))]
+fn read_too_big(text: &[u8]) -> Result<u64, NumberError>
     ensures { result ≡ digits_after (2 ^ 64) text.now }
 {
-    let mut at = 0;
-    while at < text.len() {
-        if !eight_are_digits(text, at) {
-            return Number::NotANumber;
-        }
-        at += 8;
+    if are_digits(text) {
+        Err(NumberError::TooBig)
+    } else {
+        Err(NumberError::NotANumber)
     }
-    Number::TooBig
 }
 
 // What text makes of a number of value a. Once that is too big, only what is no digit matters.
-fn by_eights(a: u64, text: &[u8]) -> Number
+#[tactic(auto, using(crate::proofs::Reading::from_eights))]
+fn by_eights(a: u64, text: &[u8]) -> Result<u64, NumberError>
     requires { length text.now % 8 ≡ 0 }
     ensures { result ≡ digits_after a text.now }
 {
-    let mut v = a;
-    let mut i = 0;
-    while i < text.len() {
-        if !eight_are_digits(text, i) {
-            return Number::NotANumber;
+    let (eights, _) = text.as_chunks::<8>();
+    let mut value = a;
+    for eight in eights {
+        if !are_digits(eight) {
+            return Err(NumberError::NotANumber);
         }
-        let d = eight_digits(text, i);
-        if is_too_big(v, d) {
-            return big_by_eights(&text[i..]);
-        }
-        v = v * TEN_TO_THE_8 + d;
-        i += 8;
+        let Some(more) = after_eight(value, value_of(eight)) else {
+            return read_too_big(text);
+        };
+        value = more;
     }
-    Number::Value(v)
+    Ok(value)
 }
 
-// What the bytes of text spell, zeros in front or not. The bytes that make no whole eight are read first, one by one: they can't be too big, and the eights end with
-// the text.
-fn read_digits(text: &[u8]) -> Number
+// What the bytes of text spell, zeros in front or not. The bytes that make no whole eight are read first: they can't be
+// too big, and the eights end with the text.
+#[tactic(auto, using(crate::proofs::Reading::from_ones))]
+fn read_digits(text: &[u8]) -> Result<u64, NumberError>
     ensures { result ≡ digits_of text.now }
 {
-    let ones = text.len() % 8;
-    let mut v = 0;
-    let mut i = 0;
-    while i < ones {
-        let byte = text[i];
-        if !is_digit(byte) {
-            return Number::NotANumber;
-        }
-        let d = digit(byte);
-        v = v * 10 + d;
-        i += 1;
+    let (ones, eights) = text.split_at(text.len() % 8);
+    if !are_digits(ones) {
+        return Err(NumberError::NotANumber);
     }
-    by_eights(v, &text[i..])
+    by_eights(value_of(ones), eights)
 }
 
 // The number that text spells, at any length.
-pub fn read_number(text: &[u8]) -> Number
+#[tactic(auto, using(crate::proofs::Reading::of_number))]
+pub fn read_number(text: &[u8]) -> Result<u64, NumberError>
     ensures { result ≡ number_of text.now }
 {
-    if text.len() == 0 {
-        return Number::NotANumber;
-    }
-    if text.len() == 1 {
-        return read_digits(text);
-    }
-    if text[0] == DIGIT_0 {
-        return Number::NotANumber;
+    if text.is_empty() || text.len() > 1 && text[0] == DIGIT_0 {
+        return Err(NumberError::NotANumber);
     }
     read_digits(text)
 }

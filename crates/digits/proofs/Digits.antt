@@ -1,41 +1,33 @@
--- The laws of digits: a value that is too big, the value of digits, and a part of the text by its halves. Assumes nothing.
+-- The laws of digits: their value, and how a text of them is read one by one. Assumes nothing.
 use mathlib.Core.Path.{◌≡◌, refl, sym, ◌∙◌}
-use mathlib.Core.Bool.{true, ◌&&◌, and-true, and_assoc}
+use mathlib.Core.Bool.{Bool, true, ◌&&◌, and_assoc}
 use mathlib.Core.List.{List, [], ◌∷◌, ◌++◌}
 use Prim.Native.Nat.{ℕ, ◌+◌, ◌-◌, ◌*◌, ◌^◌, ◌<◌, ◌≤◌}
-use native.Mathlib.Nat.{zero-add, add_assoc, add-mul, mul_assoc, pow-succ', pow-le-pow_right, mul-le-mul_right}
+use native.Mathlib.Numerals.{add-one}
+use native.Mathlib.Nat.{zero-add, add_assoc, add-mul, mul_assoc, pow-succ', pow-le-pow_right}
 use native.Mathlib.Omega.{arith}
 use lib.Dec.{leb}
 use lib.Pow.{pow-add}
 use lib.ListN.{length, get_or, drop}
-use lib.Seq.{drop-cons, take-add, drop-drop}
-use borrow.Author.Tests.{lt-ltb, le-ltb, leb-true}
-use Rattle.wire.specs.Part.{part}
-use Rattle.wire.proofs.Part.{length_part}
+use lib.Seq.{drop-cons}
+use borrow.Author.Tests.{leb-true}
+use Rattle.std.specs.List.{list_all}
 use Rattle.model.specs.Base.{all}
-use Rattle.model.specs.NodeSheet.{is_digit, digits_from, capped}
-use Rattle.model.specs.declared.Number.{Number}
+use Rattle.model.specs.NodeSheet.{is_digit, digits_from}
 use Rattle.model.proofs.Base.{and_left, and_right}
-
--- ---- a value
-
-pub too-big : (v : ℕ) → 2 ^ 64 ≤ v → capped v ≡ Number.TooBig
-unfolding capped
-too-big v h = rw (le-ltb v (2 ^ 64) h)
-
-pub in-range : (v : ℕ) → v < 2 ^ 64 → capped v ≡ Number.Value v
-unfolding capped
-in-range v h = rw (lt-ltb v (2 ^ 64) h)
 
 -- ---- the value of digits
 
--- a digit is from 48 to 57
-pub digit-range : (d : ℕ) → is_digit d ≡ true → (48 ≤ d) × (d ≤ 57)
-unfolding is_digit
-digit-range d h = (leb-true 48 d (and_left (leb 48 d) (leb d 57) h), leb-true d 57 (and_right (leb 48 d) (leb d 57) h))
+-- the model's word and the library's say the same
+pub all_is_list_all : {A : Type 0} (f : A → Bool) (xs : List A) → list_all f xs ≡ all f xs
+unfolding all
+all_is_list_all f [] = refl
+all_is_list_all f (x ∷ xs) = rw (all_is_list_all f xs)
 
-pub digit-below : (d : ℕ) → is_digit d ≡ true → d - 48 < 10
-digit-below d h = omega (arith, digit-range d h)
+-- a digit is from 48 to 57
+pub digit_range : (d : ℕ) → is_digit d ≡ true → (48 ≤ d) × (d ≤ 57)
+unfolding is_digit
+digit_range d h = (leb-true 48 d (and_left (leb 48 d) (leb d 57) h), leb-true d 57 (and_right (leb 48 d) (leb d 57) h))
 
 -- digits in one step are as many steps of one: they move the value before them up by that many places
 pub digits-after : (ds : List ℕ) (a : ℕ) → digits_from a ds ≡ a * 10 ^ length ds + digits_from 0 ds
@@ -50,25 +42,9 @@ unfolding digits_from
 grows [] v = omega arith
 grows (d ∷ ds) v = omega (arith, grows ds (v * 10 + (d - 48)))
 
--- n digits are below ten to the power of n
-digits-below : (ds : List ℕ) → all is_digit ds ≡ true → digits_from 0 ds < 10 ^ length ds
-unfolding digits_from all
-digits-below [] h = omega arith
-digits-below (d ∷ ds) h =
-    let r = digit-range d (and_left (is_digit d) (all is_digit ds) h) in
-    let below = digits-below ds (and_right (is_digit d) (all is_digit ds) h) in
-    let most : (d - 48) * 10 ^ length ds ≤ 9 * 10 ^ length ds = mul-le-mul_right (10 ^ length ds) (omega (arith, r)) in
-    rw (digits-after ds (0 * 10 + (d - 48)), pow-succ') (omega (arith, below, most))
-
 -- a digit after n digits is below ten to the power of n + 1
 pub digit-after : (n v d : ℕ) → v < 10 ^ n → d < 10 → v * 10 + d < 10 ^ (n + 1)
 digit-after n v d h l = rw (pow-add 10 n 1) (omega (arith, h, l))
-
--- which fits after at most seven
-pub few-fit : (n v d : ℕ) → n < 8 → v < 10 ^ n → d < 10 → v * 10 + d < 2 ^ 64
-few-fit n v d h l s =
-    let most : 10 ^ n ≤ 10 ^ 7 = pow-le-pow_right {n = 10} (omega arith) {i = n} {j = 7} (omega arith) in
-    omega (arith, most, l, s)
 
 -- digits after digits
 pub digits_append : (ds es : List ℕ) (a : ℕ) → digits_from a (ds ++ es) ≡ digits_from (digits_from a ds) es
@@ -82,50 +58,33 @@ unfolding all
 all_append [] es = refl
 all_append (d ∷ ds) es = rw (all_append ds es) (sym (and_assoc (is_digit d) (all is_digit ds) (all is_digit es)))
 
--- ---- a part of the text
+-- ---- from one digit to the next
 
--- a part is its two halves
-part-halves : (m : ℕ) (text : List ℕ) (i : ℕ) → part (m + m) text i ≡ part m text i ++ part m text (i + m)
-unfolding part
-part-halves m text i = rw (take-add m m (drop i text), drop-drop m i text)
-
--- its bytes are digits when those of both halves are
-pub digits-halves : (m : ℕ) (text : List ℕ) (i : ℕ) → all is_digit (part (m + m) text i) ≡ all is_digit (part m text i) && all is_digit (part m text (i + m))
-digits-halves m text i = rw (part-halves m text i) (all_append (part m text i) (part m text (i + m)))
-
--- the value of m digits is below ten to the power of m
-pub value-below : (m : ℕ) (text : List ℕ) (i : ℕ) → i + m ≤ length text → all is_digit (part m text i) ≡ true → digits_from 0 (part m text i) < 10 ^ m
-value-below m text i l h = rw (length_part m text i l) at (digits-below (part m text i) h)
-
--- what the value of a part comes from, where all its bytes are digits
-pub record Halves (m : ℕ) (text : List ℕ) (i : ℕ) : Type 0 where
-  pub left : all is_digit (part m text i) ≡ true
-  pub right : all is_digit (part m text (i + m)) ≡ true
-  pub left_below : digits_from 0 (part m text i) < 10 ^ m
-  pub right-below : digits_from 0 (part m text (i + m)) < 10 ^ m
-  pub value : digits_from 0 (part (m + m) text i) ≡ digits_from 0 (part m text i) * 10 ^ m + digits_from 0 (part m text (i + m))
-
-pub halves : (m : ℕ) (text : List ℕ) (i : ℕ) → i + (m + m) ≤ length text → all is_digit (part (m + m) text i) ≡ true → Halves m text i
-halves m text i l h =
-    let both = sym (digits-halves m text i) ∙ h in
-    let first = and_left (all is_digit (part m text i)) (all is_digit (part m text (i + m))) both in
-    let second = and_right (all is_digit (part m text i)) (all is_digit (part m text (i + m))) both in
-    record {
-      left = first;
-      right = second;
-      left_below = value-below m text i (omega arith) first;
-      right-below = value-below m text (i + m) (omega arith) second;
-      value =
-          rw (part-halves m text i, digits_append (part m text i) (part m text (i + m)) 0, digits-after (part m text (i + m)) (digits_from 0 (part m text i)))
-          (rw (length_part m text (i + m) (omega arith)));
-    }
-
--- a part of one byte
 module _ (text : List ℕ) (i : ℕ) (h : i < length text) where
-  pub digit-part : all is_digit (part 1 text i) ≡ is_digit (get_or text i 0)
-  unfolding part all
-  digit-part = rw (drop-cons text i 0 h) (and-true (is_digit (get_or text i 0)))
+  -- the digits from place i on are the one there and those after it
+  all_next : all is_digit (drop i text) ≡ is_digit (get_or text i 0) && all is_digit (drop (i + 1) text)
+  unfolding all
+  all_next = rw (add-one, drop-cons text i 0 h)
 
-  pub value-part : digits_from 0 (part 1 text i) ≡ get_or text i 0 - 48
-  unfolding part digits_from
-  value-part = rw (drop-cons text i 0 h) (omega arith)
+  pub value_next : (v : ℕ) → digits_from v (drop i text) ≡ digits_from (v * 10 + (get_or text i 0 - 48)) (drop (i + 1) text)
+  unfolding digits_from
+  value_next v = rw (add-one, drop-cons text i 0 h)
+
+  module _ (d : all is_digit (drop i text) ≡ true) where
+    both : is_digit (get_or text i 0) && all is_digit (drop (i + 1) text) ≡ true
+    both = sym all_next ∙ d
+
+    pub digit_here : is_digit (get_or text i 0) ≡ true
+    digit_here = and_left (is_digit (get_or text i 0)) (all is_digit (drop (i + 1) text)) both
+
+    pub digits_left : all is_digit (drop (i + 1) text) ≡ true
+    digits_left = and_right (is_digit (get_or text i 0)) (all is_digit (drop (i + 1) text)) both
+
+    pub digit-below : get_or text i 0 - 48 < 10
+    digit-below = omega (arith, digit_range (get_or text i 0) digit_here)
+
+-- a digit after at most 18 fits
+pub few-fit : (n v d : ℕ) → n < 19 → v < 10 ^ n → d < 10 → v * 10 + d < 2 ^ 64
+few-fit n v d h l s =
+    let most : 10 ^ n ≤ 10 ^ 18 = pow-le-pow_right {n = 10} (omega arith) {i = n} {j = 18} (omega arith) in
+    omega (arith, most, l, s)

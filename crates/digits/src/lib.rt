@@ -1,26 +1,44 @@
-// Decimal digits: one byte of a text, and eight at a time.
+// Decimal digits: whether the bytes of a text are digits, and the number that they spell.
 #![tactic(auto)]
 
-ghost use Rattle.std.specs.Prelude.{◌≡◌, true, ◌-◌};
-ghost use Rattle.model.specs.NodeSheet.{is_digit};
+ghost use Rattle.std.specs.Prelude.{◌≡◌, true, ◌-◌, ◌≤◌, ◌<◌, ◌^◌, length};
+ghost use Rattle.model.specs.Base.{all};
+ghost use Rattle.model.specs.NodeSheet.{is_digit, digits_from};
 
-mod eight;
+pub const DIGIT_0: u8 = b'0';
 
-pub use eight::{eight_are_digits, eight_digits};
-
-pub const DIGIT_0: u8 = 48;
-
-const DIGIT_9: u8 = 57;
-
-pub fn is_digit(byte: u8) -> bool
+#[tactic(auto, unfolding(model::specs::NodeSheet::is_digit))]
+fn is_digit(byte: u8) -> bool
     ensures { result ≡ is_digit byte }
 {
-    (byte >= DIGIT_0) & (byte <= DIGIT_9)
+    byte.is_ascii_digit()
 }
 
-pub fn digit(byte: u8) -> u64
+#[tactic(auto, using(crate::proofs::Digits::digit_range))]
+fn digit(byte: u8) -> u64
     requires { is_digit byte ≡ true }
     ensures { result ≡ byte - 48 }
 {
-    byte as u64 - DIGIT_0 as u64
+    u64::from(byte - DIGIT_0)
+}
+
+// Whether all bytes of a text are digits.
+pub fn are_digits(text: &[u8]) -> bool
+    ensures { result ≡ all is_digit text.now }
+{
+    text.iter().all(|byte| is_digit(*byte))
+}
+
+// The number that digits spell, of which there are few enough that it fits.
+pub fn value_of(text: &[u8]) -> u64
+    requires few { length text.now ≤ 19 }
+    requires digits { all is_digit text.now ≡ true }
+    ensures value { result ≡ digits_from 0 text.now }
+    ensures below { result < 10 ^ length text.now }
+{
+    let mut value = 0;
+    for byte in text {
+        value = value * 10 + digit(*byte);
+    }
+    value
 }

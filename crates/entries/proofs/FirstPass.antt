@@ -3,11 +3,16 @@
 use mathlib.Core.Path.{◌≡◌, refl, sym, ap, ◌∙◌}
 use mathlib.Core.Bool.{Bool, true, false, cond, ◌||◌}
 use mathlib.Core.List.{List, [], ◌∷◌}
-use Prim.Native.Nat.{ℕ, suc, ◌+◌, ◌-◌, ◌*◌, ◌/◌, ◌≤◌, ◌<◌}
+use Prim.Native.Nat.{ℕ, zero, suc, ◌+◌, ◌-◌, ◌*◌, ◌/◌, ◌≤◌, ◌<◌}
 use native.Mathlib.Numerals.{add-one}
+use Rattle.std.specs.Prelude.{Some, None}
+use Rattle.std.specs.Simd.{first_chunks}
 use native.Mathlib.Omega.{arith}
 use lib.Dec.{eqb}
-use lib.ListN.{length, get_or}
+use lib.ListN.{length, get_or, drop}
+use Rattle.std.proofs.Common.{get_or-take, get_or-drop}
+use mir.Syntax.{w64}
+use mir.Val.{to_z}
 use borrow.Author.Tests.{eqb-true, eqb-false, eq-eqb, ne_eqb}
 use Rattle.model.specs.Complete.{Completion, entry_words, completion_at, completions_from, completions_in}
 use Rattle.model.specs.Port.{Holder, free, held, is_free, is_busy, clear_busy}
@@ -19,17 +24,34 @@ use Rattle.model.proofs.Base.{clash, or-true}
 use Rattle.model.proofs.Busy.{busy-clear}
 use Rattle.model.proofs.Completions.{names-one, freed}
 use Rattle.entries.specs.Entries.{holder_in, left_of}
-use Rattle.entries.specs.declared.Left.{Left}
 
--- ---- the entries, one after another
+-- ---- the entries, one after another, as arrays of three words
+
+-- word q of the i-th
+pub word_of : (n : ℕ) (words : List ℕ) (i q : ℕ) → i < n → q < entry_words
+    → get_or (get_or (first_chunks entry_words n words) i []) q 0 ≡ get_or words (entry_words * i + q) 0
+word_of zero words i q l m = absurd (omega arith)
+word_of (suc n) words zero q l m = get_or-take entry_words words q 0 m ∙ ap (λ (j : ℕ). get_or words j 0) (omega arith)
+word_of (suc n) words (suc i) q l m =
+    word_of n (drop entry_words words) i q (omega arith) m
+    ∙ get_or-drop entry_words words (entry_words * i + q) 0
+    ∙ ap (λ (j : ℕ). get_or words j 0) (omega arith)
+
+abbrev pub entry_of : List ℕ → Completion
+entry_of e = record { tag = tag_id (get_or e 0 0); serial = serial_of (get_or e 1 0); result = to_z w64 (get_or e 2 0) }
 
 -- those from the i-th on begin with it
 pub from_next : (n : ℕ) (words : List ℕ) (i : ℕ) → i < n
-    → completions_from (n - i) words i ≡ completion_at words i ∷ completions_from (n - (i + 1)) words (i + 1)
-unfolding completions_from
+    → completions_from (n - i) words i ≡ entry_of (get_or (first_chunks entry_words n words) i []) ∷ completions_from (n - (i + 1)) words (i + 1)
+unfolding completions_from completion_at
 from_next n words i l =
     let e : n - i ≡ suc (n - (i + 1)) = omega arith in
-    ap (λ (m : ℕ). completions_from m words i) e ∙ ap (λ (j : ℕ). completion_at words i ∷ completions_from (n - (i + 1)) words j) (sym (add-one i))
+    let w = word_of n words i in
+    let first : get_or words (entry_words * i) 0 ≡ get_or (get_or (first_chunks entry_words n words) i []) 0 0 =
+    sym (w 0 l (omega arith) ∙ ap (λ (j : ℕ). get_or words j 0) (omega arith)) in
+    let same : completion_at words i ≡ entry_of (get_or (first_chunks entry_words n words) i []) =
+    λ j. record { tag = tag_id (first j); serial = serial_of (sym (w 1 l (omega arith)) j); result = to_z w64 (sym (w 2 l (omega arith)) j) } in
+    ap (λ (m : ℕ). completions_from m words i) e ∙ (λ j. same j ∷ completions_from (n - (i + 1)) words (sym (add-one i) j))
 
 -- and behind the last there are none
 pub from-none : (n : ℕ) (words : List ℕ) (i : ℕ) → n ≤ i → completions_from (n - i) words i ≡ []
@@ -43,22 +65,25 @@ from_first words = let e : length words / entry_words - 0 ≡ length words / ent
 
 -- ---- the pass, entry by entry
 
-module _ (g : Ring) (keep : ℕ → Tag) (marks : ℕ) (n : ℕ) (words : List ℕ) (i : ℕ) (l : i < n) where
+module _ (g : Ring) (keep : ℕ → Tag) (marks : ℕ) (n : ℕ) (words : List ℕ) (whole : List (List ℕ)) (r : whole ≡ first_chunks entry_words n words) (i : ℕ) (l : i < n) where
   abbrev t : ℕ
-  t = get_or words (entry_words * i) 0
+  t = get_or (get_or whole i []) 0 0
 
   abbrev none? : Bool
-  none? = names_none g (tag_id t) (serial_of (get_or words (entry_words * i + 1) 0)) (holder_in marks keep t)
+  none? = names_none g (tag_id t) (serial_of (get_or (get_or whole i []) 1 0)) (holder_in marks keep t)
 
-  pub left-stops : none? ≡ true → Left.NotNamed ≡ left_of g keep marks (completions_from (n - i) words i)
-  unfolding left_of completion_at
-  left-stops e = sym (ap (left_of g keep marks) (from_next n words i l) ∙ rw e)
+  next : completions_from (n - i) words i ≡ entry_of (get_or whole i []) ∷ completions_from (n - (i + 1)) words (i + 1)
+  next = rw r (from_next n words i l)
+
+  pub left-stops : none? ≡ true → None ≡ left_of g keep marks (completions_from (n - i) words i)
+  unfolding left_of
+  left-stops e = sym (ap (left_of g keep marks) next ∙ rw e)
 
   pub left-goes : none? ≡ false → left_of g keep (clear_busy marks t) (completions_from (n - (i + 1)) words (i + 1)) ≡ left_of g keep marks (completions_from (n - i) words i)
-  unfolding left_of completion_at
-  left-goes e = sym (ap (left_of g keep marks) (from_next n words i l) ∙ rw e)
+  unfolding left_of
+  left-goes e = sym (ap (left_of g keep marks) next ∙ rw e)
 
-pub left-ends : (g : Ring) (keep : ℕ → Tag) (marks n : ℕ) (words : List ℕ) (i : ℕ) → n ≤ i → Left.Busy marks ≡ left_of g keep marks (completions_from (n - i) words i)
+pub left-ends : (g : Ring) (keep : ℕ → Tag) (marks n : ℕ) (words : List ℕ) (i : ℕ) → n ≤ i → Some marks ≡ left_of g keep marks (completions_from (n - i) words i)
 unfolding left_of
 left-ends g keep marks n words i l = sym (ap (left_of g keep marks) (from-none n words i l))
 
@@ -109,7 +134,7 @@ module _ (g : Ring) (keep : ℕ → Tag) where
 
   -- the first pass finds the list at fault exactly where the rules do
   pub left-of : (cs : List Completion) (marks : ℕ)
-      → left_of g keep marks cs ≡ cond (any_names_none g (holder_in marks keep) cs || named_twice cs) Left.NotNamed (Left.Busy (cleared marks cs))
+      → left_of g keep marks cs ≡ cond (any_names_none g (holder_in marks keep) cs || named_twice cs) None (Some (cleared marks cs))
   unfolding left_of any_names_none named_twice cleared
   left-of [] marks = refl
   left-of (c ∷ cs) marks = go (names_none g c.tag c.serial (tags t)) refl (left-of cs (clear_busy marks t))
@@ -122,9 +147,9 @@ module _ (g : Ring) (keep : ℕ → Tag) where
 
       go : (d : Bool) → names_none g c.tag c.serial (tags t) ≡ d
           → left_of g keep (clear_busy marks t) cs
-          ≡ cond (any_names_none g (holder_in (clear_busy marks t) keep) cs || named_twice cs) Left.NotNamed (Left.Busy (cleared (clear_busy marks t) cs))
-          → cond d Left.NotNamed (left_of g keep (clear_busy marks t) cs)
-          ≡ cond ((d || any_names_none g tags cs) || (any_names t cs || named_twice cs)) Left.NotNamed (Left.Busy (cleared (clear_busy marks t) cs))
+          ≡ cond (any_names_none g (holder_in (clear_busy marks t) keep) cs || named_twice cs) None (Some (cleared (clear_busy marks t) cs))
+          → cond d None (left_of g keep (clear_busy marks t) cs)
+          ≡ cond ((d || any_names_none g tags cs) || (any_names t cs || named_twice cs)) None (Some (cleared (clear_busy marks t) cs))
       go true e ih = refl
       go false e ih =
           let n = names-one g c.tag c.serial (tags t) e in
@@ -132,5 +157,5 @@ module _ (g : Ring) (keep : ℕ → Tag) where
           let same : any_names_none g (holder_in (clear_busy marks t) keep) cs ≡ any_names_none g tags cs || any_names t cs =
           ap (λ (f : ℕ → Holder). any_names_none g f cs) (holders-freed marks t b) ∙ freed-any g t tags cs in
           ih
-          ∙ ap (λ (d : Bool). cond (d || named_twice cs) Left.NotNamed (Left.Busy (cleared (clear_busy marks t) cs))) same
-          ∙ ap (λ (d : Bool). cond d Left.NotNamed (Left.Busy (cleared (clear_busy marks t) cs))) (or_assoc (any_names_none g tags cs) (any_names t cs) (named_twice cs))
+          ∙ ap (λ (d : Bool). cond (d || named_twice cs) None (Some (cleared (clear_busy marks t) cs))) same
+          ∙ ap (λ (d : Bool). cond d None (Some (cleared (clear_busy marks t) cs))) (or_assoc (any_names_none g tags cs) (any_names t cs) (named_twice cs))

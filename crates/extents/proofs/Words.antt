@@ -1,10 +1,12 @@
 -- Extents and their words, one more and one after another. Assumes nothing.
 use mathlib.Core.Path.{◌≡◌, refl, ap, ◌∙◌}
-use mathlib.Core.List.{List, [], ◌∷◌, ◌++◌, append_assoc}
+use mathlib.Core.List.{List, [], ◌∷◌, ◌++◌}
 use Prim.Native.Nat.{ℕ, zero, suc, ◌+◌, ◌-◌, ◌*◌, ◌≤◌}
 use native.Mathlib.Nat.{zero-add, suc-add, add-zero, add_assoc}
 use native.Mathlib.Omega.{arith}
-use lib.ListN.{length, take, length-append}
+use lib.ListN.{length, take, drop, replicate, length-append}
+use borrow.Rule.Slice.PartMut.{put_mid}
+use Rattle.std.proofs.lemmas.List.{append-nil, drop_all, length-drop}
 use lib.Seq.{sets, sets-eq, take_at, length-take-le}
 use Rattle.model.specs.Checks.{sectors_in, total_sectors}
 use Rattle.model.specs.Plan.{Extent, extents_from, extent_words}
@@ -58,10 +60,16 @@ take_put w i a b c d h =
     rw (e, sets-eq (a ∷ b ∷ c ∷ d ∷ []) w (4 * i) h)
     (take_at (front ++ a ∷ b ∷ c ∷ d ∷ []) _ (4 * i + 4) (length-append front (a ∷ b ∷ c ∷ d ∷ []) ∙ omega (arith, length-take-le (4 * i) w (omega arith))))
 
--- zeros put behind the zeros of the places from `from` to i
-pub clear_more : (w₀ w : List ℕ) (from i : ℕ) → from ≤ i → 4 * i + 4 ≤ length w → take (4 * i) w ≡ take (4 * from) w₀ ++ extent_words (i - from) []
-    → take (4 * (i + 1)) (sets w (4 * i) (0 ∷ 0 ∷ 0 ∷ 0 ∷ [])) ≡ take (4 * from) w₀ ++ extent_words (i + 1 - from) []
+-- places without an extent are zeros, four to each
+zeros : (n : ℕ) → extent_words n [] ≡ replicate (4 * n) 0
 unfolding extent_words
-clear_more w₀ w from i h l e =
-    let j : i + 1 - from ≡ i - from + 1 = omega arith in
-    take_put w i 0 0 0 0 l ∙ rw (e, j, words-add (i - from) 1 [] (omega arith)) (append_assoc (take (4 * from) w₀) (extent_words (i - from) []) (extent_words 1 []))
+zeros zero = refl
+zeros (suc n) = let j : 4 * suc n ≡ suc (suc (suc (suc (4 * n)))) = omega arith in rw (j, zeros n)
+
+-- zeros put over all words from those of a place on
+pub cleared_behind : (w ys : List ℕ) (from : ℕ) → length w ≡ 44 → from ≤ 11 → ys ≡ replicate (44 - 4 * from) 0
+    → put_mid (4 * from) (44 - 4 * from) w ys ≡ take (4 * from) w ++ extent_words (11 - from) []
+cleared_behind w ys from l h e =
+    let k : 4 * (11 - from) ≡ 44 - 4 * from = omega arith in
+    let behind : drop (44 - 4 * from) (drop (4 * from) w) ≡ [] = drop_all (44 - 4 * from) (drop (4 * from) w) (omega (arith, length-drop (4 * from) w)) in
+    rw (e, behind, zeros (11 - from), k) (ap (λ (x : List ℕ). take (4 * from) w ++ x) (append-nil (replicate (44 - 4 * from) 0)))

@@ -6,6 +6,8 @@ use mathlib.Core.List.{List, [], ◌∷◌}
 use Prim.Native.Nat.{ℕ}
 use native.Mathlib.Decide.{ℕ_discrete}
 use borrow.Author.Tests.{eq-eqb, ne_eqb}
+use Rattle.std.specs.Prelude.{Result, Ok, Err}
+use Rattle.model.specs.declared.Refusal.{Refusal}
 use Rattle.model.specs.Backend.{Backend, empty_backend, event_on, after_call}
 use Rattle.model.specs.Calls.{Call, Open, Close, Turn, Complete, CompleteAnswer, none_done, all_done, Effect, Event}
 use Rattle.model.specs.Complete.{Completion, completions_in, expected_of}
@@ -14,7 +16,6 @@ use Rattle.model.specs.Demand.{All, LendsBytes}
 use Rattle.model.specs.History.{posts, book, view_at, history_from, history, backend_after}
 use Rattle.model.specs.NodeSheet.{sheet_of}
 use Rattle.model.specs.Port.{is_closed}
-use Rattle.model.specs.declared.Reply.{Reply}
 use Rattle.model.specs.declared.Turned.{Turned}
 use Rattle.model.proofs.Base.{clash}
 use Rattle.model.proofs.Conservation.{Sound}
@@ -45,19 +46,19 @@ module _ (k : ℕ) (h : List Event) (o : Sound (book k h)) (closed : is_closed (
 
   silent-call : (c : Call) (e : Effect c) → NotOpening k c → Facts (view_at h) c e → Silent (deeds c e)
   unfolding view_at
-  silent-call (Open p sheet) (Reply.Refused n) ne f = (closed, refl)
-  silent-call (Open p sheet) Reply.Done ne f = other (opening p.0 (params_in (sheet_of sheet))) ne
-  silent-call (Close p) (Reply.Refused n) ne f = (closed, refl)
-  silent-call (Close p) Reply.Done ne f =
+  silent-call (Open p sheet) (Err why) ne f = (closed, refl)
+  silent-call (Open p sheet) (Ok done) ne f = other (opening p.0 (params_in (sheet_of sheet))) ne
+  silent-call (Close p) (Err why) ne f = (closed, refl)
+  silent-call (Close p) (Ok done) ne f =
       elim (ℕ_discrete k p.0) [ yes e ↦ rw (eq-eqb k p.0 e) (refl, refl) | no d ↦ other (closing p.0) d ]
   silent-call (Turn rings grants words) e ne f = go e.rings e.answer f
     where
-      go : (left : List ℕ) (x : Turned) → TurnFacts (view_at h) rings left x → Silent (turn_deeds rings left x)
-      go left (Turned.Refused n) f = (closed, refl)
-      go left Turned.Idle f = (closed, refl)
-      go left (Turned.Overrun p) f = other (breaking p.0) (not_chosen rings p.0 f)
-      go left (Turned.Started p t s plan) f = other (starting p.0 rings t.0 s.0 (expected_of plan)) (not_chosen rings p.0 f.choice)
-      go left (Turned.Answered p n z y) f = other (answering p.0 rings left z) (not_chosen rings p.0 f.choice)
+      go : (left : List ℕ) (x : Result Turned Refusal) → TurnFacts (view_at h) rings left x → Silent (turn_deeds rings left x)
+      go left (Err why) f = (closed, refl)
+      go left (Ok Turned.Idle) f = (closed, refl)
+      go left (Ok (Turned.Overrun p)) f = other (breaking p.0) (not_chosen rings p.0 f)
+      go left (Ok (Turned.Started p t s plan)) f = other (starting p.0 rings t.0 s.0 (expected_of plan)) (not_chosen rings p.0 f.choice)
+      go left (Ok (Turned.Answered p fault y)) f = other (answering p.0 rings left fault.status) (not_chosen rings p.0 f.choice)
   silent-call (Complete rings p entries) e ne f = go e.rings e.answer f
     where
       cs : List Completion
@@ -73,7 +74,7 @@ module _ (k : ℕ) (h : List Event) (o : Sound (book k h)) (closed : is_closed (
   quiet-call (Open p sheet) e f = tt
   quiet-call (Close p) e f = tt
   quiet-call (Complete rings p entries) e f = tt
-  quiet-call (Turn rings grants words) e f = λ q. not_chosen rings k (subst (λ (y : Turned). TurnFacts (view_at h) rings e.rings y) q f) refl
+  quiet-call (Turn rings grants words) e f = λ q. not_chosen rings k (subst (λ (y : Result Turned Refusal). TurnFacts (view_at h) rings e.rings y) q f) refl
 
 pub before-step : (k : ℕ) (b : Backend) (h : List Event) (c : Call) → LendsBytes c → NotOpening k c → Before k b h → Before k (after_call b c) (event_on b c ∷ h)
 unfolding book slots_taken

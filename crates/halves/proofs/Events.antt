@@ -10,7 +10,9 @@ use native.Mathlib.Nat.{mod-lt}
 use native.Mathlib.Omega.{arith}
 use lib.Dec.{ltb}
 use lib.ListN.{length, length-map}
+use Rattle.std.specs.Prelude.{Result, Ok, Err}
 use Rattle.wire.proofs.LittleEndian.{load-agree, load-store-below, load-store-above, load-store-lt}
+use Rattle.model.specs.declared.Refusal.{Refusal}
 use Rattle.model.specs.Base.{modulus}
 use Rattle.model.specs.Buffers.{ports, rings_length, are_rings, are_grants, pages_of}
 use Rattle.model.specs.Calls.{Call, Open, Close, Turn, Complete, TurnEffect, CompleteAnswer, none_done, all_done, CompleteEffect, Effect, Event, most_completions}
@@ -23,7 +25,7 @@ use Rattle.model.specs.declared.Pending.{Pending}
 use Rattle.model.specs.declared.PortId.{PortId}
 use Rattle.model.specs.declared.State.{State}
 use Rattle.model.specs.declared.Turned.{Turned}
-use Rattle.model.specs.declared.Verdict.{Verdict}
+use Rattle.model.specs.Plan.{Verdict}
 use Rattle.model.proofs.Base.{by_cond, clash}
 use Rattle.model.proofs.Page.{length-pages_of, pages_of-set_pages, pages_of-other}
 use Rattle.model.proofs.Responses.{get_d-all}
@@ -139,12 +141,12 @@ idle-all v rings k l f =
 -- ---- what an answer tells the guest
 
 -- of an answer at once and of a completion: whether its port's guest is to be notified
-abbrev pub TurnTold : View → List ℕ → Turned → Type 0
-TurnTold v rings (Turned.Refused n) = Unit
-TurnTold v rings Turned.Idle = Unit
-TurnTold v rings (Turned.Overrun p) = Unit
-TurnTold v rings (Turned.Started p t s plan) = Unit
-TurnTold v rings (Turned.Answered p n z y) = y ≡ notifies_all v rings p.0 1
+abbrev pub TurnTold : View → List ℕ → Result Turned Refusal → Type 0
+TurnTold v rings (Err why) = Unit
+TurnTold v rings (Ok Turned.Idle) = Unit
+TurnTold v rings (Ok (Turned.Overrun p)) = Unit
+TurnTold v rings (Ok (Turned.Started p t s plan)) = Unit
+TurnTold v rings (Ok (Turned.Answered p fault y)) = y ≡ notifies_all v rings p.0 1
 
 abbrev pub CompleteTold : View → List ℕ → PortId → CompleteAnswer → Type 0
 CompleteTold v rings p (none_done n) = Unit
@@ -155,8 +157,8 @@ TT v rings e = TurnTold v rings e.answer
 
 settled-told : (v : View) (rings : List ℕ) (k : ℕ) (r : Request) (x : Verdict) → TT v rings (settled v rings k r x)
 unfolding settled notifies
-settled-told v rings k r (Verdict.Refused n z) = refl
-settled-told v rings k r (Verdict.Start plan) = tt
+settled-told v rings k r (Err a) = refl
+settled-told v rings k r (Ok plan) = tt
 
 served-told : (v : View) (rings grants : List ℕ) (k : ℕ) (d : Pending) → TT v rings (served_by v rings grants k d)
 unfolding served_by overran idle

@@ -9,6 +9,9 @@ use native.Mathlib.Decide.{ℕ_discrete}
 use native.Mathlib.Omega.{arith}
 use lib.Dec.{ltb}
 use lib.ListN.{length}
+use Rattle.std.specs.Prelude.{Result, Ok, Err}
+use Rattle.model.specs.declared.Fault.{Fault}
+use Rattle.model.specs.declared.Refusal.{Refusal}
 use Rattle.model.specs.Buffers.{ports, rings_length, are_rings, are_grants, pages_of, set_pages}
 use Rattle.model.specs.Calls.{Call, Open, Close, Turn, Complete, TurnEffect, CompleteAnswer, none_done, all_done, CompleteEffect, Effect, Event, most_completions}
 use Rattle.model.specs.Complete.{completions_in, are_entries, completed}
@@ -21,9 +24,8 @@ use Rattle.model.specs.declared.Params.{Params}
 use Rattle.model.specs.declared.Pending.{Pending}
 use Rattle.model.specs.declared.PortId.{PortId}
 use Rattle.model.specs.declared.State.{State}
-use Rattle.model.specs.declared.Status.{Status}
 use Rattle.model.specs.declared.Turned.{Turned}
-use Rattle.model.specs.declared.Verdict.{Verdict}
+use Rattle.model.specs.Plan.{Verdict}
 use Rattle.model.proofs.Base.{by_cond}
 use Rattle.model.proofs.DueFacts.{AnsweredNow}
 use Rattle.model.proofs.Page.{length-pages_of, pages_of-set_pages, length-set_pages, pages_of-other, req-event-at}
@@ -35,12 +37,12 @@ use Rattle.halves.proofs.Page.{guest-fits, Quiet, quiet-refl, quiet-trans, quiet
 -- ---- the rings
 
 -- where no response is given
-abbrev pub TurnLeft : View → List ℕ → List ℕ → Turned → Type 0
-TurnLeft v rings left (Turned.Refused n) = left ≡ rings
-TurnLeft v rings left Turned.Idle = left ≡ armed v rings ports
-TurnLeft v rings left (Turned.Overrun p) = (left ≡ rings) × (pending_at v rings p.0 ≡ Pending.Overrun)
-TurnLeft v rings left (Turned.Started p t s plan) = left ≡ rings
-TurnLeft v rings left (Turned.Answered p n z y) = Unit
+abbrev pub TurnLeft : View → List ℕ → List ℕ → Result Turned Refusal → Type 0
+TurnLeft v rings left (Err why) = left ≡ rings
+TurnLeft v rings left (Ok Turned.Idle) = left ≡ armed v rings ports
+TurnLeft v rings left (Ok (Turned.Overrun p)) = (left ≡ rings) × (pending_at v rings p.0 ≡ Pending.Overrun)
+TurnLeft v rings left (Ok (Turned.Started p t s plan)) = left ≡ rings
+TurnLeft v rings left (Ok (Turned.Answered p fault y)) = Unit
 
 abbrev pub CompleteLeft : List ℕ → List ℕ → CompleteAnswer → Type 0
 CompleteLeft rings left (none_done n) = left ≡ rings
@@ -51,8 +53,8 @@ TL v rings e = TurnLeft v rings e.rings e.answer
 
 settled-left : (v : View) (rings : List ℕ) (k : ℕ) (x : Verdict) → TL v rings (settled v rings k (request_at v rings k) x)
 unfolding settled
-settled-left v rings k (Verdict.Refused n z) = tt
-settled-left v rings k (Verdict.Start plan) = refl
+settled-left v rings k (Err a) = tt
+settled-left v rings k (Ok plan) = refl
 
 served-left : (v : View) (rings grants : List ℕ) (k : ℕ) (d : Pending) → pending_at v rings k ≡ d → TL v rings (served_by v rings grants k d)
 unfolding served_by overran idle
@@ -97,10 +99,10 @@ pub left-due : (v : View) (e : Event) → e ≡ due v e.call → Left v e.call e
 left-due v e q = subst (λ (x : Event). Left v x.call x.effect) (sym q) (left-facts v e.call)
 
 -- the one response of an answer at once, as its facts have it
-pub answered-left : (v : View) (rings left : List ℕ) (k n : ℕ) (z : Status) → AnsweredNow v rings left k n z
-    → left ≡ responded_all_at v rings k (due_to (request_at v rings k).pair z ∷ [])
+pub answered-left : (v : View) (rings left : List ℕ) (k : ℕ) (fault : Fault) → AnsweredNow v rings left k fault
+    → left ≡ responded_all_at v rings k (due_to (request_at v rings k).pair fault.status ∷ [])
 unfolding settled responded_at
-answered-left v rings left k n z f = f.written
+answered-left v rings left k fault f = f.written
 
 -- ---- one port's page
 

@@ -22,7 +22,7 @@ use Rattle.model.specs.declared.Pair.{Pair}
 use Rattle.model.specs.declared.Status.{Status}
 use Rattle.model.proofs.Page.{length-responded, status-responded, rsp_prod-responded, get_d-responded, bytes-responded}
 use Rattle.model.proofs.Ring.{Fits, fits-for, slot_at-modulus, slot_of-modulus}
-use Rattle.guest.proofs.Pages.{slot-room, slot-header}
+use Rattle.guest.proofs.Pages.{slot_room, slot-header}
 use Rattle.guest.specs.Guest.{guest_page, guest_ring, put_page}
 use Rattle.halves.specs.Claim.{read_slot}
 use Rattle.halves.specs.System.{Gathered}
@@ -189,7 +189,7 @@ module _ (a : List ℕ) (sized : length a ≡ guest_page) (i : ℕ) (slot : List
 
   put-length : length (put_page a i slot) ≡ length a
   unfolding put_page set_req_prod
-  put-length = length-store 4 slotted 0 _ ∙ length-set_part slot_bytes a (at i) slot (omega (arith, slot-room i)) long
+  put-length = length-store 4 slotted 0 _ ∙ length-set_part slot_bytes a (at i) slot (omega (arith, slot_room i)) long
 
   put-bytes : IsBytes a → IsBytes slot → IsBytes (put_page a i slot)
   unfolding put_page set_req_prod
@@ -200,23 +200,23 @@ module _ (a : List ℕ) (sized : length a ≡ guest_page) (i : ℕ) (slot : List
   put-outside m l o =
       get_d-store-outside 4 slotted 0 (after i) m (λ q k e. omega arith)
       ∙ elim (dec_lt m (at i)) [
-        | yes b ↦ get_d-set_part-below slot_bytes a (at i) slot (omega (arith, slot-room i)) long m b
+        | yes b ↦ get_d-set_part-below slot_bytes a (at i) slot (omega (arith, slot_room i)) long m b
         | no b ↦
-            get_d-set_part-above slot_bytes a (at i) slot (omega (arith, slot-room i)) long m
+            get_d-set_part-above slot_bytes a (at i) slot (omega (arith, slot_room i)) long m
             (elim (dec_lt m (at i + slot_bytes)) [ yes c ↦ absurd (o (omega arith) c) | no c ↦ omega arith ])
       ]
 
   put-req_prod : req_prod (put_page a i slot) ≡ after i
   unfolding put_page set_req_prod req_prod
   put-req_prod =
-      load-store-lt 4 slotted 0 (after i) (omega (arith, length-set_part slot_bytes a (at i) slot (omega (arith, slot-room i)) long)) (mod-lt (i + 1) (omega arith))
+      load-store-lt 4 slotted 0 (after i) (omega (arith, length-set_part slot_bytes a (at i) slot (omega (arith, slot_room i)) long)) (mod-lt (i + 1) (omega arith))
 
   put-slot : slot_of guest_ring (put_page a i slot) i ≡ slot
   unfolding put_page set_req_prod slot_of ring_for
   put-slot =
       part-agree slot_bytes (store 4 slotted 0 (after i)) slotted (at i) (length-store 4 slotted 0 _)
       (λ q l. get_d-store-outside 4 slotted 0 (after i) (at i + q) (λ p k e. omega (arith, slot-header i)))
-      ∙ part-set_part slot_bytes a (at i) slot (omega (arith, slot-room i)) long
+      ∙ part-set_part slot_bytes a (at i) slot (omega (arith, slot_room i)) long
 
 pub page-put : {a : List ℕ} {T P Q A : ℕ} {slots : ℕ → List ℕ} {answers : ℕ → Gathered} → PageHolds a T P Q A slots answers
     → Q ≤ A → A ≤ T → T ≤ P → P < Q + 32

@@ -9,6 +9,9 @@ use native.Mathlib.Omega.{arith}
 use lib.Dec.{eqb, leb}
 use lib.ListN.{length, length-map}
 use borrow.Author.Tests.{leb-false, eqb-true, eqb-false, eq-eqb, ne_eqb}
+use Rattle.std.specs.Prelude.{Result, Ok, Err}
+use Rattle.model.specs.declared.Fault.{Fault}
+use Rattle.model.specs.declared.Refusal.{Refusal}
 use Rattle.model.specs.Base.{modulus}
 use Rattle.model.specs.Buffers.{ports, rings_length, pages_of, set_pages}
 use Rattle.model.specs.Calls.{CompleteAnswer, none_done, all_done, Event}
@@ -22,7 +25,7 @@ use Rattle.model.specs.Rules.{any_names_none}
 use Rattle.model.specs.Turn.{pending_at, has_work, ResponseDue, responded_all, responded_all_at, responded}
 use Rattle.model.specs.declared.Pending.{Pending}
 use Rattle.model.specs.declared.PortId.{PortId}
-use Rattle.model.specs.declared.Reply.{Reply}
+use Rattle.model.specs.Calls.{Reply}
 use Rattle.model.specs.declared.State.{State}
 use Rattle.model.specs.declared.Status.{Status}
 use Rattle.model.specs.declared.Turned.{Turned}
@@ -172,15 +175,15 @@ module _ (k : ℕ) (small : k < ports) (h : List Event) {g : Guest} {page : List
         after-own (pages_of guest_ring left k) (starting k rings t s x) refl
         (half-quiet (half-take w k rings (started t s x) [] here (chosen-some f)) (pages_of guest_ring left k) (same-rings left rings here e))
 
-    own-answer : (left : List ℕ) (n : ℕ) (z : Status) → AnsweredNow (view_at h) rings left k n z → After (pages_of guest_ring left k) (answering k rings left z ∷ [])
+    own-answer : (left : List ℕ) (fault : Fault) → AnsweredNow (view_at h) rings left k fault → After (pages_of guest_ring left k) (answering k rings left fault.status ∷ [])
     unfolding said responded
-    own-answer left n z f =
-        let a = said k left z (book k h) in
-        after-own (pages_of guest_ring left k) (answering k rings left z) refl
+    own-answer left fault f =
+        let a = said k left fault.status (book k h) in
+        after-own (pages_of guest_ring left k) (answering k rings left fault.status) refl
         (half-respond
         (half-take w k rings at_once (a ∷ []) here (chosen-some f.choice))
         (pages_of guest_ring left k) a _ _ refl refl
-        (responded-here left _ (chosen-open k h sound rings f.choice) f.choice.sized (answered-left (view_at h) rings left k n z f))
+        (responded-here left _ (chosen-open k h sound rings f.choice) f.choice.sized (answered-left (view_at h) rings left k fault f))
         (rw w.ring)
         (omega (arith, answered-le w sound)))
 
@@ -212,12 +215,12 @@ module _ (k : ℕ) (small : k < ports) (h : List Event) {g : Guest} {page : List
   -- ---- calls
 
   pub after_open : (p : PortId) (sheet : List ℕ) (e : Reply) → k ≢ p.0 → After page (open_deeds p.0 sheet e)
-  after_open p sheet (Reply.Refused n) ne = after_none page (quiet-refl page)
-  after_open p sheet Reply.Done ne = after-other page (opening p.0 (params_in (sheet_of sheet))) ne (quiet-refl page)
+  after_open p sheet (Err why) ne = after_none page (quiet-refl page)
+  after_open p sheet (Ok done) ne = after-other page (opening p.0 (params_in (sheet_of sheet))) ne (quiet-refl page)
 
   pub after-close : (p : PortId) (e : Reply) → After page (close_deeds p.0 e)
-  after-close p (Reply.Refused n) = after_none page (quiet-refl page)
-  after-close p Reply.Done =
+  after-close p (Err why) = after_none page (quiet-refl page)
+  after-close p (Ok done) =
       by-port (λ j. After page (closing j ∷ [])) p.0
       (after-own page (closing k) refl (rw (append-nil slots) (half-state w State.Closed)))
       (λ ne. after-other page (closing p.0) ne (quiet-refl page))
@@ -228,12 +231,12 @@ module _ (k : ℕ) (small : k < ports) (h : List Event) {g : Guest} {page : List
     other-quiet left j xs there ne e =
         unmoved left rings here (ap (λ (x : List ℕ). pages_of guest_ring x k) e ∙ responded-other h rings k j small sized xs there ne)
 
-    pub after_turn : (left : List ℕ) (x : Turned) → TurnFacts (view_at h) rings left x → TurnLeft (view_at h) rings left x
+    pub after_turn : (left : List ℕ) (x : Result Turned Refusal) → TurnFacts (view_at h) rings left x → TurnLeft (view_at h) rings left x
         → After (pages_of guest_ring left k) (turn_deeds rings left x)
-    after_turn left (Turned.Refused n) f e = after_none _ (same-rings left rings here e)
-    after_turn left Turned.Idle f e =
+    after_turn left (Err why) f e = after_none _ (same-rings left rings here e)
+    after_turn left (Ok Turned.Idle) f e =
         after_none _ (subst (λ (y : List ℕ). Quiet y (pages_of guest_ring left k)) here (rw e (idle-quiet (view_at h) rings k small sized)))
-    after_turn left (Turned.Overrun p) f e =
+    after_turn left (Ok (Turned.Overrun p)) f e =
         by-port
         (λ j. Chosen (view_at h) rings j → pending_at (view_at h) rings j ≡ Pending.Overrun → After (pages_of guest_ring left k) (breaking j ∷ []))
         p.0
@@ -241,21 +244,21 @@ module _ (k : ℕ) (small : k < ports) (h : List Event) {g : Guest} {page : List
         (λ ne c o. after-other _ (breaking p.0) ne (same-rings left rings here e.0))
         f
         e.1
-    after_turn left (Turned.Started p t s plan) f e =
+    after_turn left (Ok (Turned.Started p t s plan)) f e =
         by-port
         (λ j. Chosen (view_at h) rings j → After (pages_of guest_ring left k) (starting j rings t.0 s.0 (expected_of plan) ∷ []))
         p.0
         (λ c. own-start rings here t.0 s.0 (expected_of plan) c left e)
         (λ ne c. after-other _ (starting p.0 rings t.0 s.0 (expected_of plan)) ne (same-rings left rings here e))
         f.choice
-    after_turn left (Turned.Answered p n z y) f e =
+    after_turn left (Ok (Turned.Answered p fault y)) f e =
         by-port
-        (λ j. AnsweredNow (view_at h) rings left j n z → After (pages_of guest_ring left k) (answering j rings left z ∷ []))
+        (λ j. AnsweredNow (view_at h) rings left j fault → After (pages_of guest_ring left k) (answering j rings left fault.status ∷ []))
         p.0
-        (λ a. own-answer rings here left n z a)
+        (λ a. own-answer rings here left fault a)
         (λ ne a.
-        after-other _ (answering p.0 rings left z) ne
-        (other-quiet left p.0 _ (chosen-lt a.choice) ne (answered-left (view_at h) rings left p.0 n z a)))
+        after-other _ (answering p.0 rings left fault.status) ne
+        (other-quiet left p.0 _ (chosen-lt a.choice) ne (answered-left (view_at h) rings left p.0 fault a)))
         f
 
     pub after-complete : (left : List ℕ) (p : PortId) (cs : List Completion) (x : CompleteAnswer) → CompleteFacts (view_at h) rings left p cs x

@@ -9,6 +9,8 @@ use lib.Dec.{eqb, ltb, leb}
 use lib.ListN.{length, get_or, take, length-map}
 use lib.Seq.{length-take-le}
 use borrow.Author.Tests.{ltb-true, leb-false, eqb-false, eq-eqb, lt-leb, not-true}
+use Rattle.std.specs.Prelude.{Result, Ok}
+use Rattle.model.specs.declared.Refusal.{Refusal}
 use Rattle.model.specs.Backend.{view_of, event_on, Backend}
 use Rattle.model.specs.Buffers.{ports, rings_length, pages_of, set_pages}
 use Rattle.model.specs.Calls.{Open, Close, Event}
@@ -22,8 +24,7 @@ use Rattle.model.specs.Ring.{Request, ring_of}
 use Rattle.model.specs.Rules.{opened_by, due_open, effect_due}
 use Rattle.model.specs.Turn.{port_id, request_at}
 use Rattle.model.specs.declared.PortId.{PortId}
-use Rattle.model.specs.declared.Reply.{Reply}
-use Rattle.model.specs.declared.Sheet.{Sheet}
+use Rattle.model.specs.NodeSheet.{Sheet}
 use Rattle.model.specs.declared.Turned.{Turned}
 use Rattle.model.proofs.Base.{by_cond, clash}
 use Rattle.model.proofs.Conservation.{Sound}
@@ -56,7 +57,7 @@ pub record Kept (k : ℕ) (w : System) : Type 0 where
 
 -- ---- the beginning
 
-opens : (k : ℕ) (sheet : List ℕ) → ForGuest k sheet → (b : Backend) → is_closed (b.port k).state ≡ true → (event_on b (Open (port_id k) sheet)).effect ≡ Reply.Done
+opens : (k : ℕ) (sheet : List ℕ) → ForGuest k sheet → (b : Backend) → is_closed (b.port k).state ≡ true → (event_on b (Open (port_id k) sheet)).effect ≡ Ok tt
 unfolding effect_due due_open opened_by view_of
 opens k sheet g b c = rw (lt-leb ports k g.small, c, g.says)
 
@@ -146,10 +147,10 @@ module _ (k : ℕ) (small : k < ports) (w : System) (h : Kept k w) where
         let t = told-step w.backend w.events (turn_on k w.page others grants words) lent-bytes h.told in
         let f : TurnFacts v lent left x.effect.answer = facts-due v x t.as_due.0 in
         let l : TurnLeft v lent left x.effect.answer = left-due v x t.as_due.0 in
-        let overruns : x.effect.answer ≢ Turned.Overrun (port_id k) =
+        let overruns : x.effect.answer ≢ Ok (Turned.Overrun (port_id k)) =
         λ e.
         never-overruns k small w.events h.half sound-here lent lent-here
-        (subst (λ (y : Turned). TurnFacts v lent left y) e f) (subst (λ (y : Turned). TurnLeft v lent left y) e l).1 in
+        (subst (λ (y : Result Turned Refusal). TurnFacts v lent left y) e f) (subst (λ (y : Result Turned Refusal). TurnLeft v lent left y) e l).1 in
         record {
           told = t;
           clean = (overruns, h.clean);

@@ -10,6 +10,8 @@ use native.Mathlib.Omega.{arith}
 use lib.Dec.{eqb, ltb, leb}
 use lib.ListN.{length, length-map}
 use borrow.Author.Tests.{eqb-true, eqb-false, eq-eqb, ne_eqb, lt-ltb, not-false}
+use Rattle.std.specs.Prelude.{Result, Ok, Err}
+use Rattle.model.specs.declared.Refusal.{Refusal}
 use Rattle.model.specs.Backend.{event_on}
 use Rattle.model.specs.Base.{modulus}
 use Rattle.model.specs.Buffers.{ports, rings_length, pages_of, set_pages}
@@ -22,7 +24,7 @@ use Rattle.model.specs.Port.{View, is_closed, is_open, is_work, distance, furthe
 use Rattle.model.specs.Ring.{Request, Ring, req_event, rsp_event}
 use Rattle.model.specs.Turn.{pages_at, pending_at, has_work, looked_at, armed, ResponseDue, responded_all_at, tells, notifies_all}
 use Rattle.model.specs.declared.PortId.{PortId}
-use Rattle.model.specs.declared.Reply.{Reply}
+use Rattle.model.specs.Calls.{Reply}
 use Rattle.model.specs.declared.Status.{Status}
 use Rattle.model.specs.declared.Turned.{Turned}
 use Rattle.model.proofs.Base.{by_cond, clash, or_left, or_right}
@@ -235,22 +237,22 @@ module _ (k : ℕ) (small : k < ports) (w : System) (h : Kept k w) (z : Waits) (
     other-page : (left : List ℕ) (j : ℕ) (xs : List ResponseDue) → j < ports → k ≢ j → left ≡ responded_all_at v rings j xs → pages_of guest_ring left k ≡ w.page
     other-page left j xs there ne e = ap (λ (x : List ℕ). pages_of guest_ring x k) e ∙ responded-other w.events rings k j small whole xs there ne ∙ here
 
-    turn-armed : (left : List ℕ) (x : Turned) → TurnFacts v rings left x → TurnLeft v rings left x → TurnTold v rings x
+    turn-armed : (left : List ℕ) (x : Result Turned Refusal) → TurnFacts v rings left x → TurnLeft v rings left x → TurnTold v rings x
         → Armed (pages_of guest_ring left k) (length w.put) (length w.collected) (posts k (turn_deeds rings left x) b) (after_turn k z x)
-    turn-armed left (Turned.Refused n) f e t = armed-same (pages_of guest_ring left k) (same-rings left e)
-    turn-armed left Turned.Idle f e t = rw e (idle-armed f)
-    turn-armed left (Turned.Overrun p) f e t =
+    turn-armed left (Err why) f e t = armed-same (pages_of guest_ring left k) (same-rings left e)
+    turn-armed left (Ok Turned.Idle) f e t = rw e (idle-armed f)
+    turn-armed left (Ok (Turned.Overrun p)) f e t =
         armed-guest (pages_of guest_ring left k) (same-rings left e.0) _
         (by_cond (λ (c : Book). length c.answered ≡ length b.answered) (eqb k p.0) _ _ (λ _. refl) (λ _. refl))
-    turn-armed left (Turned.Started p t s plan) f e y =
+    turn-armed left (Ok (Turned.Started p t s plan)) f e y =
         armed-guest (pages_of guest_ring left k) (same-rings left e) _
         (by_cond (λ (c : Book). length c.answered ≡ length b.answered) (eqb k p.0) _ _ (λ _. refl) (λ _. refl))
-    turn-armed left (Turned.Answered p n s y) f e t = record {
+    turn-armed left (Ok (Turned.Answered p fault y)) f e t = record {
       guest =
-          guest-armed left p.0 1 (posts k (answering p.0 rings left s ∷ []) b) y t (omega arith)
+          guest-armed left p.0 1 (posts k (answering p.0 rings left fault.status ∷ []) b) y t (omega arith)
           (λ q. chosen-open k w.events (sound-here k small w h) rings (subst (λ (j : ℕ). Chosen v rings j) (sym q) f.choice))
           (λ ne. (
-            other-page left p.0 _ (chosen-lt f.choice) ne (answered-left v rings left p.0 n s f),
+            other-page left p.0 _ (chosen-lt f.choice) ne (answered-left v rings left p.0 fault f),
             rw (ne_eqb k p.0 ne),
           ))
           (λ q. absurd (omega arith));
@@ -321,12 +323,12 @@ module _ (k : ℕ) (small : k < ports) (w : System) (h : Kept k w) (z : Waits) (
 
   open-armed : (p : PortId) (sheet : List ℕ) (e : Reply) → k ≢ p.0
       → Armed w.page (length w.put) (length w.collected) (posts k (open_deeds p.0 sheet e) b) z
-  open-armed p sheet (Reply.Refused n) ne = a
-  open-armed p sheet Reply.Done ne = rw (ne_eqb k p.0 ne) a
+  open-armed p sheet (Err why) ne = a
+  open-armed p sheet (Ok done) ne = rw (ne_eqb k p.0 ne) a
 
   close-armed : (p : PortId) (e : Reply) → Armed w.page (length w.put) (length w.collected) (posts k (close_deeds p.0 e) b) z
-  close-armed p (Reply.Refused n) = a
-  close-armed p Reply.Done =
+  close-armed p (Err why) = a
+  close-armed p (Ok done) =
       by_cond (λ (c : Book). Armed w.page (length w.put) (length w.collected) c z) (eqb k p.0) (entry (closing p.0) b) b
       (λ _. record { guest = a.guest; backend = λ x y o. clash o refl }) (λ _. a)
 

@@ -1,5 +1,5 @@
 -- What holds of the two halves together, after every list of steps (rules 16.21 to 16.28). The proof is `together`, in proofs/Together.antt.
-use Rattle.std.specs.Prelude.{ℕ, ◌%◌, ◌^◌, ◌≤◌, ◌<◌, min, ◌≡◌, true, false, cond, List, [], ◌++◌, map, reverse, length, get_or, take}
+use Rattle.std.specs.Prelude.{ℕ, ◌%◌, ◌^◌, ◌≤◌, ◌<◌, min, ◌≡◌, true, false, cond, List, [], ◌++◌, map, reverse, length, get_or, take, Ok}
 use Rattle.model.specs.Buffers.{ports, rings_length, set_pages}
 use Rattle.model.specs.Calls.{Call, Open, Close, Turn, Complete, Effect, Event}
 use Rattle.model.specs.Checks.{is_a, max_segments, moves_nothing}
@@ -10,7 +10,6 @@ use Rattle.model.specs.Port.{is_closed}
 use Rattle.model.specs.Ring.{Request, ring_of, request_of, status_bits, discard}
 use Rattle.model.specs.Turn.{port_id, request_at}
 use Rattle.model.specs.declared.Params.{Params}
-use Rattle.model.specs.declared.Sheet.{Sheet}
 use Rattle.model.specs.declared.Turned.{Turned}
 use Rattle.asking.specs.Slot.{guest_layout, slot_for}
 use Rattle.guest.specs.Guest.{guest_ring, same_id}
@@ -36,7 +35,7 @@ given k h = reverse (map (λ (a : Response). record { pair = a.pair; status = st
 abbrev pub NotOverrun : ℕ → (c : Call) → Effect c → Type 0
 NotOverrun k (Open p sheet) e = Unit
 NotOverrun k (Close p) e = Unit
-NotOverrun k (Turn rings grants words) e = e.answer ≡ Turned.Overrun (port_id k) → ⊥
+NotOverrun k (Turn rings grants words) e = e.answer ≡ Ok (Turned.Overrun (port_id k)) → ⊥
 NotOverrun k (Complete rings p entries) e = Unit
 
 pub record Holds (k : ℕ) (w : System) : Type 0 where
@@ -87,7 +86,7 @@ NotOpening k (Complete rings p entries) = Unit
 pub record ForGuest (k : ℕ) (sheet : List ℕ) : Type 0 where
   pub small : k < ports
   pub params : Params
-  pub says : sheet_of sheet ≡ Sheet.Read params
+  pub says : sheet_of sheet ≡ Ok params
   pub ring : ring_of params ≡ guest_ring
 
 -- of every port, every such sheet, every list of calls that do not open the port, and then every list of steps

@@ -1,17 +1,17 @@
 -- The two halves of a ring together (rules 16.21 to 16.23): a guest, its page, and a backend of which it has port k. Only the two of them write the page, which
 -- is passed from one call to the next; all other bytes of the rings may be anything.
-use Rattle.std.specs.Prelude.{ℕ, cond, List, [], ◌∷◌, ◌++◌, eqb, length}
+use Rattle.std.specs.Prelude.{ℕ, Bool, cond, List, [], ◌∷◌, ◌++◌, eqb, length, Result, Option, Ok, Err, Some, None}
+use Rattle.model.specs.declared.Refusal.{Refusal}
 use Rattle.model.specs.Backend.{Backend, empty_backend, event_on, after_call}
 use Rattle.model.specs.Buffers.{pages_of, set_pages}
 use Rattle.model.specs.Calls.{Call, Open, Close, Turn, Complete, Event}
 use Rattle.model.specs.Deeds.{Deed, opening, closing, breaking, starting, answering, finishing, port_of, deeds_of}
 use Rattle.model.specs.History.{Book, ring_in, post, book, history, backend_after}
+use Rattle.model.specs.Numbers.{refusal_number}
 use Rattle.model.specs.Ring.{Request, slot_of}
 use Rattle.model.specs.Turn.{port_id}
 use Rattle.model.specs.declared.Collected.{Collected}
-use Rattle.model.specs.declared.Pair.{Pair}
 use Rattle.model.specs.declared.PortId.{PortId}
-use Rattle.model.specs.declared.Put.{Put}
 use Rattle.guest.specs.Guest.{guest_ring, Guest, zero_page, fresh_guest, put_due, collect_due}
 
 -- ---- what the backend took, by its history
@@ -38,9 +38,8 @@ slots_taken k (e ∷ h) = slots_taken k h ++ took_all k (deeds_of e) (book k h)
 -- ---- the system
 
 -- what a guest collected: id and operation, and the 16 bits of the status
-pub record Gathered : Type 0 where
-  pub pair : Pair
-  pub status : ℕ
+abbrev pub Gathered : Type 0
+Gathered = Collected
 
 -- The guest, its page and the backend; and what has happened: the backend's events, the latest first; the requests put, the responses collected and the numbers
 -- that collecting was refused with, each the oldest first.
@@ -64,21 +63,21 @@ pub data Step : Type 0 where
   closing_any : (port : PortId) → Step
 
 -- what an answer adds to the requests put,
-abbrev pub log_put : Put → Request → List Request
-log_put (Put.Refused n) r = []
-log_put (Put.Done y) r = r ∷ []
+abbrev pub log_put : Result Bool Refusal → Request → List Request
+log_put (Err why) r = []
+log_put (Ok y) r = r ∷ []
 
 -- to the responses collected,
-abbrev pub log_collected : Collected → List Gathered
-log_collected (Collected.Refused n) = []
-log_collected Collected.Nothing = []
-log_collected (Collected.Response q z) = record { pair = q; status = z } ∷ []
+abbrev pub log_collected : Result (Option Collected) Refusal → List Gathered
+log_collected (Err why) = []
+log_collected (Ok None) = []
+log_collected (Ok (Some c)) = c ∷ []
 
 -- and to the refusals of collecting
-abbrev pub log_refused : Collected → List ℕ
-log_refused (Collected.Refused n) = n ∷ []
-log_refused Collected.Nothing = []
-log_refused (Collected.Response q z) = []
+abbrev pub log_refused : Result (Option Collected) Refusal → List ℕ
+log_refused (Err why) = refusal_number why ∷ []
+log_refused (Ok None) = []
+log_refused (Ok (Some c)) = []
 
 -- the calls that lend the page
 abbrev pub turn_on : ℕ → List ℕ → List ℕ → List ℕ → List ℕ → Call

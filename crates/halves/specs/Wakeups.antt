@@ -1,13 +1,13 @@
 -- Nobody sleeps over work (rule 16.30): who waits for a notification, whether one was due since, and that whoever waits for one that was not due has nothing to do. A call
 -- is one step here. On a page that both sides write at any time this holds of a half that looks once more after it armed (docs/GUEST.md, docs/HOST.md).
-use Rattle.std.specs.Prelude.{ℕ, ◌≡◌, Bool, true, false, ◌&&◌, ◌||◌, List, [], ◌∷◌, eqb, length}
+use Rattle.std.specs.Prelude.{ℕ, ◌≡◌, Bool, true, false, ◌&&◌, ◌||◌, List, [], ◌∷◌, eqb, length, Result, Option, Ok, Err, Some, None}
+use Rattle.model.specs.declared.Refusal.{Refusal}
 use Rattle.model.specs.Backend.{event_on}
 use Rattle.model.specs.Calls.{Call, CompleteAnswer, none_done, all_done}
 use Rattle.model.specs.Demand.{All, LendsBytes}
 use Rattle.model.specs.History.{book}
 use Rattle.model.specs.Port.{is_open}
 use Rattle.model.specs.declared.Collected.{Collected}
-use Rattle.model.specs.declared.Put.{Put}
 use Rattle.model.specs.declared.Turned.{Turned}
 use Rattle.guest.specs.Guest.{put_due, collect_due}
 use Rattle.halves.specs.Claim.{Lends, NotOpening, ForGuest}
@@ -24,23 +24,23 @@ abbrev pub nobody_waits : Waits
 nobody_waits = record { guest = false; guest_told = false; backend = false; backend_told = false }
 
 -- a put tells the backend, where it says to notify
-abbrev pub after_put : Waits → Put → Waits
-after_put z (Put.Refused n) = z
-after_put z (Put.Done y) = record { guest = z.guest; guest_told = z.guest_told; backend = z.backend; backend_told = z.backend_told || y }
+abbrev pub after_put : Waits → Result Bool Refusal → Waits
+after_put z (Err why) = z
+after_put z (Ok y) = record { guest = z.guest; guest_told = z.guest_told; backend = z.backend; backend_told = z.backend_told || y }
 
 -- a collect that found nothing begins a wait, and a response ends it
-abbrev pub after_collect : Waits → Collected → Waits
-after_collect z (Collected.Refused n) = z
-after_collect z Collected.Nothing = record { guest = true; guest_told = false; backend = z.backend; backend_told = z.backend_told }
-after_collect z (Collected.Response q s) = record { guest = false; guest_told = false; backend = z.backend; backend_told = z.backend_told }
+abbrev pub after_collect : Waits → Result (Option Collected) Refusal → Waits
+after_collect z (Err why) = z
+after_collect z (Ok None) = record { guest = true; guest_told = false; backend = z.backend; backend_told = z.backend_told }
+after_collect z (Ok (Some c)) = record { guest = false; guest_told = false; backend = z.backend; backend_told = z.backend_told }
 
 -- an idle turn begins the backend's wait, and every other turn that is done ends it; an answer at once tells the guest of its port, where it says to notify
-abbrev pub after_turn : ℕ → Waits → Turned → Waits
-after_turn k z (Turned.Refused n) = z
-after_turn k z Turned.Idle = record { guest = z.guest; guest_told = z.guest_told; backend = true; backend_told = false }
-after_turn k z (Turned.Overrun p) = record { guest = z.guest; guest_told = z.guest_told; backend = false; backend_told = false }
-after_turn k z (Turned.Started p t s plan) = record { guest = z.guest; guest_told = z.guest_told; backend = false; backend_told = false }
-after_turn k z (Turned.Answered p n s y) = record { guest = z.guest; guest_told = z.guest_told || eqb k p.0 && y; backend = false; backend_told = false }
+abbrev pub after_turn : ℕ → Waits → Result Turned Refusal → Waits
+after_turn k z (Err why) = z
+after_turn k z (Ok Turned.Idle) = record { guest = z.guest; guest_told = z.guest_told; backend = true; backend_told = false }
+after_turn k z (Ok (Turned.Overrun p)) = record { guest = z.guest; guest_told = z.guest_told; backend = false; backend_told = false }
+after_turn k z (Ok (Turned.Started p t s plan)) = record { guest = z.guest; guest_told = z.guest_told; backend = false; backend_told = false }
+after_turn k z (Ok (Turned.Answered p fault y)) = record { guest = z.guest; guest_told = z.guest_told || eqb k p.0 && y; backend = false; backend_told = false }
 
 -- a completion tells the guest of its port, where it says to notify
 abbrev pub after_completion : ℕ → Waits → CompleteAnswer → Waits

@@ -1,7 +1,6 @@
-pub mod Numbers
+pub mod Kept
 pub mod Returns
 pub mod Decode
 pub mod Runs
 pub mod Halves
 pub mod Meters
-pub mod Walks

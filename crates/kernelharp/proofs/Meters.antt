@@ -2,13 +2,14 @@
 use mathlib.Core.Path.{◌≡◌, refl, sym, ap, subst, ◌∙◌}
 use mathlib.Core.Bool.{Bool, true, false, cond, true≢false}
 use mathlib.Core.List.{List, [], ◌∷◌, map}
-use mathlib.Core.Option.{Option, none, some}
-use Prim.Native.Nat.{ℕ, zero, suc, min}
+use mathlib.Core.Option.{none, some}
+use Rattle.std.specs.Prelude.{Result, Option, Ok, Err, Some}
+use Prim.Native.Nat.{ℕ, min}
 use native.Mathlib.Omega.{arith}
 use lib.Dec.{eqb}
 use lib.ListN.{length, take}
 use borrow.Author.Tests.{eqb-true}
-use Rattle.model.specs.Answers.{turned_number, completed_number, magnitude, magnitudes, status_words, extents_in, turn_left, done_left, many_left}
+use Rattle.model.specs.Answers.{turned_number, completed_number, magnitude, magnitudes, status_words, turn_left, done_left, many_left}
 use Rattle.model.specs.Backend.{view_of}
 use Rattle.model.specs.Calls.{CompleteAnswer, none_done, all_done, Effect, most_completions}
 use Rattle.model.specs.Complete.{the_one}
@@ -19,6 +20,7 @@ use Rattle.model.specs.Rules.{effect_due}
 use Rattle.model.specs.Turn.{port_id, tag_id, serial_of}
 use Rattle.model.specs.declared.Counter.{Counter}
 use Rattle.model.specs.declared.Counters.{Counters}
+use Rattle.model.specs.declared.Refusal.{Refusal}
 use Rattle.model.specs.declared.Status.{Status}
 use Rattle.model.specs.declared.Turned.{Turned}
 use Rattle.model.proofs.Counts.{counted-event, counted-zeroed, counted-new, zeroed-kept}
@@ -32,46 +34,44 @@ use Rattle.theorem.proofs.Runs.{zeros-told}
 use Rattle.kernelharp.specs.Promise.{due_on, turn_call, list_call, complete_call}
 use Rattle.kernelharp.specs.Run.{Made, kh_open, kh_close, kh_turn, kh_complete, kh_complete_many, Outcome, Step, memory_left, call_of, effect_of, event_of, Promise, BytesLent}
 use Rattle.kernelharp.specs.Meters.{HostStep, unmetered, metered, zeroing, Records, stored, MeterPromise, MeteredRun, records_after, act_of, acts_after, Wish, makes, zeroes, wish_of, WishBytes, MeteredRunOf, MetersTheorem}
-use Rattle.kernelharp.proofs.Numbers.{Numbered, turn-keeps, complete-numbered}
-use Rattle.kernelharp.proofs.Decode.{NumberedTurned, statuses-in}
-use Rattle.kernelharp.proofs.Runs.{kept-numbered, effect-due, step-returned, step-told, Done, call-done}
+use Rattle.kernelharp.proofs.Kept.{Listed, complete-listed}
+use Rattle.kernelharp.proofs.Decode.{numbered, statuses-in}
+use Rattle.kernelharp.proofs.Runs.{effect-due, step-returned, step-told, Done, call-done}
 
 -- ---- the words that a call left raise what its answer raises
 
-status-word : (z : Status) → word_counter (magnitude z) ≡ status_counter z
+status-word : (z : Status) → word_counter (magnitude z) ≡ Some (status_counter z)
 status-word Status.Okay = refl
 status-word Status.Error = refl
 status-word Status.NotSupported = refl
 
-turn-words : (r : Turned) (answer extents words : List ℕ) (n : ℕ) (c : Counters) → NumberedTurned r → n ≡ turned_number r → words ≡ turn_left r answer extents
+turn-words : (r : Result Turned Refusal) (answer extents words : List ℕ) (n : ℕ) (c : Counters) → n ≡ turned_number r → words ≡ turn_left r answer extents
     → turn_metered n words c ≡ after_turned r c
-turn-words (Turned.Refused zero) answer extents words n c h e w = absurd (h refl)
-turn-words (Turned.Refused (suc i)) answer extents words n c h e w = rw e
-turn-words Turned.Idle answer extents words n c h e w = rw (e, w)
-turn-words (Turned.Overrun p) answer extents words n c h e w = rw (e, w)
-turn-words (Turned.Started p t s plan) answer extents words n c h e w = rw (e, w)
-turn-words (Turned.Answered p i z y) answer extents words n c h e w = rw (e, w) (ap (λ (x : Counter). raised_by x (raised_by Counter.Taken c)) (status-word z))
+turn-words (Err why) answer extents words n c e w = rw (e, (numbered why).1) refl
+turn-words (Ok Turned.Idle) answer extents words n c e w = rw (e, w)
+turn-words (Ok (Turned.Overrun p)) answer extents words n c e w = rw (e, w)
+turn-words (Ok (Turned.Started p t s plan)) answer extents words n c e w = rw (e, w)
+turn-words (Ok (Turned.Answered p f y)) answer extents words n c e w =
+    rw (e, w) (ap (λ (x : Option Counter). raised_by x (raised_by (Some Counter.Taken) c)) (status-word f.status))
 
-done-words : (r : CompleteAnswer) (answer words : List ℕ) (n : ℕ) (c : Counters) → Numbered 1 r → n ≡ completed_number r → words ≡ done_left r answer
+done-words : (r : CompleteAnswer) (answer words : List ℕ) (n : ℕ) (c : Counters) → Listed 1 r → n ≡ completed_number r → words ≡ done_left r answer
     → done_metered n words c ≡ after_completed r c
-done-words (none_done zero) answer words n c h e w = absurd (h refl)
-done-words (none_done (suc i)) answer words n c h e w = rw e
+done-words (none_done why) answer words n c h e w = rw (e, (numbered why).1) refl
 done-words (all_done p [] y) answer words n c h e w = absurd (omega (arith, h.0))
-done-words (all_done p (z ∷ []) y) answer words n c h e w = rw (e, w) (ap (λ (x : Counter). raised_by x c) (status-word z))
+done-words (all_done p (z ∷ []) y) answer words n c h e w = rw (e, w) (ap (λ (x : Option Counter). raised_by x c) (status-word z))
 done-words (all_done p (z ∷ x ∷ zs) y) answer words n c h e w = absurd (omega (arith, h.0))
 
-status-words : (zs : List Status) → map word_counter (magnitudes zs) ≡ map status_counter zs
+status-words : (zs : List Status) → map word_counter (magnitudes zs) ≡ map (λ z. Some (status_counter z)) zs
 status-words [] = refl
 status-words (z ∷ zs) = λ i. status-word z i ∷ status-words zs i
 
-many-words : (k : ℕ) (r : CompleteAnswer) (answer words : List ℕ) (n : ℕ) (c : Counters) → Numbered k r → n ≡ completed_number r → words ≡ many_left r answer
+many-words : (k : ℕ) (r : CompleteAnswer) (answer words : List ℕ) (n : ℕ) (c : Counters) → Listed k r → n ≡ completed_number r → words ≡ many_left r answer
     → many_metered n words c ≡ after_completed r c
-many-words k (none_done zero) answer words n c h e w = absurd (h refl)
-many-words k (none_done (suc i)) answer words n c h e w = rw e
+many-words k (none_done why) answer words n c h e w = rw (e, (numbered why).1) refl
 many-words k (all_done p zs y) answer words n c h e w =
     let few : min most_completions (length zs) ≡ length zs = omega (arith, h.0, h.1) in
     rw (e, w)
-    (ap (λ (l : List Counter). raised_by_all l c)
+    (ap (λ (l : List (Option Counter)). raised_by_all l c)
     (ap (λ (j : ℕ). map word_counter (take j (status_words zs))) few ∙ ap (map word_counter) (statuses-in zs) ∙ status-words zs))
 
 -- so the record is left as the step's own event raises it
@@ -80,21 +80,19 @@ unfolding effect_due
 left-handed m (kh_open p sheet) o lent left r q = absurd q
 left-handed m (kh_close p) o lent left r q = absurd q
 left-handed m (kh_turn rings grants answer) o lent left r q =
-    let v = view_of (backend_of m) in
     let e = due_on m (turn_call rings grants answer) in
-    let d = kept-numbered (extents_in answer) e.words e.answer (turn-keeps v rings grants (extents_in answer)) in
     q
-    ∙ turn-words e.answer answer e.words o.answer o.number lent d r.returned.number r.answer_due
+    ∙ turn-words e.answer answer e.words o.answer o.number lent r.returned.number r.answer_due
     ∙ ap (λ (x : Effect (turn_call rings grants answer)). after_turned x.answer lent) (sym (effect-due m (kh_turn rings grants answer) o r))
 left-handed m (kh_complete rings p t s x answer) o lent left r q =
     let e = due_on m (complete_call rings p t s x) in
     q
-    ∙ done-words e.answer answer o.answer o.number lent (complete-numbered (view_of (backend_of m)) rings (port_id p) (the_one (tag_id t) (serial_of s) x)) r.returned.number r.answer_due
+    ∙ done-words e.answer answer o.answer o.number lent (complete-listed (view_of (backend_of m)) rings (port_id p) (the_one (tag_id t) (serial_of s) x)) r.returned.number r.answer_due
     ∙ ap (λ (y : Effect (complete_call rings p t s x)). after_completed y.answer lent) (sym (effect-due m (kh_complete rings p t s x answer) o r))
 left-handed m (kh_complete_many rings p entries answer) o lent left r q =
     let e = due_on m (list_call rings p entries) in
     q
-    ∙ many-words _ e.answer answer o.answer o.number lent (complete-numbered (view_of (backend_of m)) rings (port_id p) entries) r.returned.number r.answer_due
+    ∙ many-words _ e.answer answer o.answer o.number lent (complete-listed (view_of (backend_of m)) rings (port_id p) entries) r.returned.number r.answer_due
     ∙ ap (λ (y : Effect (list_call rings p entries)). after_completed y.answer lent) (sym (effect-due m (kh_complete_many rings p entries answer) o r))
 
 -- ---- every metered run
@@ -157,7 +155,7 @@ record Raised (c : Made) (o : Outcome c) (lent : Counters) : Type 0 where
   left : Counters
   promise : MeterPromise c o lent left
 
-is_some : Option ℕ → Bool
+is_some : mathlib.Core.Option.Option ℕ → Bool
 is_some none = false
 is_some (some k) = true
 
@@ -175,7 +173,7 @@ meter-raised (kh_complete_many rings p entries answer) o k e lent = record { lef
 
 -- one call more: its answer goes to the record of the port that it names, if it names one
 run_call : (m : List ℕ) (r : Records) (c : Made) (d : Done m c) (wishes : List Wish) → ((records : Records) → MeteredRunOf (memory_left c d.left) records wishes)
-    → (to : Option ℕ) → answer_port (call_of c) (effect_of c d.left) ≡ to → MeteredRunOf m r (makes c ∷ wishes)
+    → (to : mathlib.Core.Option.Option ℕ) → answer_port (call_of c) (effect_of c d.left) ≡ to → MeteredRunOf m r (makes c ∷ wishes)
 run_call m r c d wishes after none e =
     let rest = after r in
     record {

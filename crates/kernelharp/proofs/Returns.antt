@@ -5,6 +5,7 @@ use Prim.Native.Nat.{ℕ, ◌/◌}
 use native.Mathlib.Omega.{arith}
 use lib.ListN.{length, take, drop}
 use lib.Seq.{drop_at, length-take-le}
+use Rattle.std.specs.Prelude.{Bool, Result, Option, Ok, Err}
 use Rattle.wire.specs.Part.{set_part}
 use Rattle.wire.proofs.Part.{set_part-part}
 use Rattle.model.specs.Answers.{refusal, turned_number, completed_number, yes_no, status_words, extents_at, extents_in, turn_left, many_left, put_number, collected_number, put_left, collected_left}
@@ -17,7 +18,7 @@ use Rattle.model.specs.Rules.{effect_due}
 use Rattle.model.specs.Turn.{port_id}
 use Rattle.model.specs.declared.Collected.{Collected}
 use Rattle.model.specs.declared.CompletedMany.{CompletedMany}
-use Rattle.model.specs.declared.Put.{Put}
+use Rattle.model.specs.declared.Refusal.{Refusal}
 use Rattle.model.specs.declared.Turned.{Turned}
 use Rattle.asking.specs.Request.{request_in}
 use Rattle.frontend.specs.Promise.{put_words_left, collect_words_left, PutPromise, CollectPromise}
@@ -28,7 +29,7 @@ use Rattle.lists.specs.List.{many_of, many_filled, ManyPromised}
 use Rattle.turn.specs.Promise.{TurnPromised}
 use Rattle.kernelharp.specs.Guest.{PutReturned, CollectReturned}
 use Rattle.kernelharp.specs.Promise.{due_on, Returned, turn_call, TurnReturned, list_call, ListReturned, ManyReturned}
-use Rattle.kernelharp.proofs.Numbers.{WordsKept, TurnKeeps, turn-keeps, Numbered, complete-numbered}
+use Rattle.kernelharp.proofs.Kept.{WordsKept, TurnKeeps, turn-keeps, Listed, complete-listed}
 
 -- the number and the memory
 pub returned : (m : List ℕ) (c : Call) (e : Effect c) (left : List ℕ) (n : ℕ) → Promised m c e left → n ≡ refusal c e → Returned m c n left
@@ -42,15 +43,12 @@ returned m c e left n p h = record {
 
 module _ (m rings grants answer pages left : List ℕ) where
   -- a refused turn left the words as they were lent
-  left_alone : (r : Turned) (words : List ℕ) → words ≡ set_part plan_words answer extents_at (extents_in words) → WordsKept (extents_in answer) (extents_in words) r
+  left_alone : (r : Result Turned Refusal) (words : List ℕ) → words ≡ set_part plan_words answer extents_at (extents_in words) → WordsKept (extents_in answer) (extents_in words) r
       → turn_left r words (extents_in words) ≡ turn_left r answer (extents_in words)
-  left_alone (Turned.Refused n) words w k = w ∙ ap (set_part plan_words answer extents_at) k.0 ∙ set_part-part plan_words answer extents_at
-  left_alone Turned.Idle words w k = refl
-  left_alone (Turned.Overrun p) words w k = refl
-  left_alone (Turned.Started p t s plan) words w k = refl
-  left_alone (Turned.Answered p n z y) words w k = refl
+  left_alone (Ok did) words w k = refl
+  left_alone (Err e) words w k = w ∙ ap (set_part plan_words answer extents_at) k ∙ set_part-part plan_words answer extents_at
 
-  pub turn-returned : (r : Turned) (words : List ℕ) (n : ℕ) (written : List ℕ) → TurnPromised m rings grants answer r pages words left
+  pub turn-returned : (r : Result Turned Refusal) (words : List ℕ) (n : ℕ) (written : List ℕ) → TurnPromised m rings grants answer r pages words left
       → (n ≡ turned_number r) × (written ≡ turn_left r words (extents_in words)) → TurnReturned m rings grants answer n pages written left
   unfolding effect_due
   turn-returned r words n written w h =
@@ -78,7 +76,7 @@ module _ (filled : CompleteAnswer → List ℕ → List ℕ) (m rings : List ℕ
   }
 
 -- the four words before the statuses, over those that the list left
-put-before : (a : CompleteAnswer) (n : ℕ) (lent : List ℕ) → Numbered n a → length lent ≡ 68 → many_put (many_of a) n (many_filled a lent) ≡ many_left a lent
+put-before : (a : CompleteAnswer) (n : ℕ) (lent : List ℕ) → Listed n a → length lent ≡ 68 → many_put (many_of a) n (many_filled a lent) ≡ many_left a lent
 put-before (none_done i) n lent h l = refl
 put-before (all_done p zs y) n lent h l =
     let four : drop 4 (take 4 lent ++ status_words zs) ≡ status_words zs = drop_at (take 4 lent) (status_words zs) 4 (length-take-le 4 lent (omega arith)) in
@@ -88,14 +86,14 @@ many-number : (a : CompleteAnswer) → many_number (many_of a) ≡ completed_num
 many-number (none_done i) = refl
 many-number (all_done p zs y) = refl
 
-pub many-returned : (m rings : List ℕ) (port : ℕ) (entries answer pages filled left : List ℕ) (r : CompletedMany) (n : ℕ) (written : List ℕ) → length answer ≡ 68
+pub many-returned : (m rings : List ℕ) (port : ℕ) (entries answer pages filled left : List ℕ) (r : Result CompletedMany Refusal) (n : ℕ) (written : List ℕ) → length answer ≡ 68
     → ManyPromised m rings (port_id port) entries answer pages r filled left
     → (n ≡ many_number r) × (written ≡ many_put r (length entries / entry_words) filled)
     → ManyReturned m rings port entries answer n pages written left
 unfolding effect_due
 many-returned m rings port entries answer pages filled left r n written l p h =
     let a = (due_on m (list_call rings port entries)).answer in
-    let d = complete-numbered (view_of (backend_of m)) rings (port_id port) entries in
+    let d = complete-listed (view_of (backend_of m)) rings (port_id port) entries in
     record {
       returned = record { number = h.0 ∙ ap many_number p.answer ∙ many-number a; becomes = p.memory; still = p.still };
       rings_due = p.rings;
@@ -104,24 +102,24 @@ many-returned m rings port entries answer pages filled left r n written l p h =
 
 -- ---- kh_guest_put and kh_guest_collect
 
-pub put-returned : (w page request answer left bytes : List ℕ) (r : Put) (n : ℕ) (written : List ℕ) → PutPromise w page (request_in request) r left bytes
+pub put-returned : (w page request answer left bytes : List ℕ) (r : Result Bool Refusal) (n : ℕ) (written : List ℕ) → PutPromise w page (request_in request) r left bytes
     → (n ≡ put_number r) × (written ≡ put_left r answer)
     → PutReturned w page request answer (record { number = n; guest = left; page = bytes; answer = written })
 put-returned w page request answer left bytes r n written p h = record {
   number = h.0 ∙ ap put_number p.answered;
   page_due = p.page_due;
-  answer_due = h.1 ∙ ap (λ (x : Put). put_left x answer) p.answered;
+  answer_due = h.1 ∙ ap (λ (x : Result Bool Refusal). put_left x answer) p.answered;
   guest_due = p.guest_due;
   words = p.words ∙ ap (put_words_left w (request_in request).pair) p.answered;
 }
 
-pub collect-returned : (w page answer left bytes : List ℕ) (r : Collected) (n : ℕ) (written : List ℕ) → CollectPromise w page r left bytes
+pub collect-returned : (w page answer left bytes : List ℕ) (r : Result (Option Collected) Refusal) (n : ℕ) (written : List ℕ) → CollectPromise w page r left bytes
     → (n ≡ collected_number r) × (written ≡ collected_left r answer)
     → CollectReturned w page answer (record { number = n; guest = left; page = bytes; answer = written })
 collect-returned w page answer left bytes r n written p h = record {
   number = h.0 ∙ ap collected_number p.answered;
   page_due = p.page_due;
-  answer_due = h.1 ∙ ap (λ (x : Collected). collected_left x answer) p.answered;
+  answer_due = h.1 ∙ ap (λ (x : Result (Option Collected) Refusal). collected_left x answer) p.answered;
   guest_due = p.guest_due;
   words = p.words ∙ ap (collect_words_left w) p.answered;
 }

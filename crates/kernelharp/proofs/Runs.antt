@@ -2,8 +2,8 @@
 use mathlib.Core.Path.{◌≡◌, refl, sym, ap, subst, ◌∙◌}
 use mathlib.Core.List.{List, [], ◌∷◌}
 use Prim.Native.Nat.{ℕ}
-use native.Mathlib.Omega.{arith}
 use lib.ListN.{length}
+use Rattle.std.specs.Prelude.{Result, Ok, Err}
 use Rattle.model.specs.Answers.{refusal, turned_number, completed_number, extents_in, turn_left, done_left, many_left}
 use Rattle.model.specs.Backend.{Backend, view_of, next, after_call}
 use Rattle.model.specs.Calls.{Effect, TurnEffect, CompleteAnswer, CompleteEffect, Event}
@@ -13,6 +13,7 @@ use Rattle.model.specs.History.{view_at}
 use Rattle.model.specs.Port.{View}
 use Rattle.model.specs.Rules.{effect_due}
 use Rattle.model.specs.Turn.{port_id, tag_id, serial_of}
+use Rattle.model.specs.declared.Refusal.{Refusal}
 use Rattle.model.specs.declared.Turned.{Turned}
 use Rattle.model.proofs.Demand3.{demanded}
 use Rattle.model.proofs.Refinement.{Told, told-view}
@@ -26,35 +27,24 @@ use Rattle.theorem.proofs.Runs.{promised-told, told-clean, zeros-told}
 use Rattle.kernelharp.specs.Decode.{reply_of, turned_of, completed_of, many_of}
 use Rattle.kernelharp.specs.Promise.{due_on, Returned, turn_call, list_call, complete_call}
 use Rattle.kernelharp.specs.Run.{Made, kh_open, kh_close, kh_turn, kh_complete, kh_complete_many, Outcome, Step, memory_left, memory_after, call_of, effect_of, event_of, events_after, history_of, Promise, Run, BytesLent, outcome_of, WordForWord, Holds, RunOf, Theorem}
-use Rattle.kernelharp.proofs.Numbers.{open-numbered, close-numbered, WordsKept, TurnKeeps, turn-keeps, complete-numbered}
-use Rattle.kernelharp.proofs.Decode.{reply-decoded, NumberedTurned, turned-decoded, completed-decoded, many-decoded, Long, turn-long, extents-decoded}
+use Rattle.kernelharp.proofs.Kept.{WordsKept, TurnKeeps, turn-keeps, complete-listed}
+use Rattle.kernelharp.proofs.Decode.{reply-decoded, turned-decoded, completed-decoded, many-decoded, Long, turn-long, extents-decoded}
 use Rattle.kernelharp.proofs.Returns.{returned, list-returned}
 
 -- ---- what is decoded is what is due
 
 -- a refusal's words are those lent, and those of a turn that was done are its answer's
-pub kept-numbered : (lent left : List ℕ) (r : Turned) → WordsKept lent left r → NumberedTurned r
-kept-numbered lent left (Turned.Refused n) k = λ z. omega (arith, k.1)
-kept-numbered lent left Turned.Idle k = tt
-kept-numbered lent left (Turned.Overrun p) k = tt
-kept-numbered lent left (Turned.Started p t s plan) k = tt
-kept-numbered lent left (Turned.Answered p n z y) k = tt
-
-extents-left : (r : Turned) (xs answer words : List ℕ) → WordsKept (extents_in answer) xs r → NumberedTurned r
+extents-left : (r : Result Turned Refusal) (xs answer words : List ℕ) → WordsKept (extents_in answer) xs r
     → (turned_number r ≡ 0 → length xs ≡ 44) → words ≡ turn_left r answer xs → extents_in words ≡ xs
-extents-left (Turned.Refused i) xs answer words k d l w = ap extents_in w ∙ sym k.0
-extents-left Turned.Idle xs answer words k d l w = rw w (extents-decoded Turned.Idle xs d refl (l refl))
-extents-left (Turned.Overrun p) xs answer words k d l w = rw w (extents-decoded (Turned.Overrun p) xs d refl (l refl))
-extents-left (Turned.Started p t s plan) xs answer words k d l w = rw w (extents-decoded (Turned.Started p t s plan) xs d refl (l refl))
-extents-left (Turned.Answered p i z y) xs answer words k d l w = rw w (extents-decoded (Turned.Answered p i z y) xs d refl (l refl))
+extents-left (Ok did) xs answer words k l w = rw w (extents-decoded did xs (l refl))
+extents-left (Err e) xs answer words k l w = ap extents_in w ∙ sym k
 
 turn-effect : (e : TurnEffect) (answer : List ℕ) (n : ℕ) (pages words : List ℕ) → TurnKeeps (extents_in answer) e → Long e → n ≡ turned_number e.answer
     → pages ≡ e.rings → words ≡ turn_left e.answer answer e.words
     → ◌≡◌ {A = TurnEffect} (record { rings = pages; words = extents_in words; answer = turned_of n words }) e
 turn-effect e answer n pages words k l h p w =
-    let d = kept-numbered (extents_in answer) e.words e.answer k in
-    let a : turned_of n words ≡ e.answer = ap (λ (z : ℕ). turned_of z words) h ∙ turned-decoded e.answer answer e.words words d w in
-    let x : extents_in words ≡ e.words = extents-left e.answer e.words answer words k d l w in
+    let a : turned_of n words ≡ e.answer = ap (λ (z : ℕ). turned_of z words) h ∙ turned-decoded e.answer answer e.words words w in
+    let x : extents_in words ≡ e.words = extents-left e.answer e.words answer words k l w in
     λ i. record { rings = p i; words = x i; answer = a i }
 
 -- whatever the function's words are
@@ -67,8 +57,8 @@ list-effect decoded e n pages words h p w =
 -- so the step's own event is the one due
 pub effect-due : (m : List ℕ) (c : Made) (o : Outcome c) → Promise m c o → effect_of c o ≡ due_on m (call_of c)
 unfolding effect_due
-effect-due m (kh_open p sheet) o r = ap reply_of r.number ∙ reply-decoded _ (open-numbered (view_of (backend_of m)) (port_id p) sheet)
-effect-due m (kh_close p) o r = ap reply_of r.number ∙ reply-decoded _ (close-numbered (view_of (backend_of m)) (port_id p))
+effect-due m (kh_open p sheet) o r = ap reply_of r.number ∙ reply-decoded _
+effect-due m (kh_close p) o r = ap reply_of r.number ∙ reply-decoded _
 effect-due m (kh_turn rings grants answer) o r =
     turn-effect (due_on m (turn_call rings grants answer)) answer o.number o.rings o.answer
     (turn-keeps (view_of (backend_of m)) rings grants (extents_in answer)) (turn-long (view_of (backend_of m)) rings grants (extents_in answer))
@@ -76,11 +66,11 @@ effect-due m (kh_turn rings grants answer) o r =
 effect-due m (kh_complete rings p t s x answer) o r =
     let e = due_on m (complete_call rings p t s x) in
     list-effect completed_of e o.number o.rings o.answer r.returned.number r.rings_due
-    (completed-decoded e.answer answer o.answer (complete-numbered (view_of (backend_of m)) rings (port_id p) (the_one (tag_id t) (serial_of s) x)) r.answer_due)
+    (completed-decoded e.answer answer o.answer (complete-listed (view_of (backend_of m)) rings (port_id p) (the_one (tag_id t) (serial_of s) x)) r.answer_due)
 effect-due m (kh_complete_many rings p entries answer) o r =
     let e = due_on m (list_call rings p entries) in
     list-effect many_of e o.number o.rings o.answer r.returned.number r.rings_due
-    (many-decoded _ e.answer answer o.answer (complete-numbered (view_of (backend_of m)) rings (port_id p) entries) r.answer_due)
+    (many-decoded _ e.answer answer o.answer (complete-listed (view_of (backend_of m)) rings (port_id p) entries) r.answer_due)
 
 -- what every function returned
 pub number_of : (c : Made) → Outcome c → ℕ

@@ -1,7 +1,6 @@
 // kh_complete_many
 ghost use Rattle.kernelharp.specs.Run.{kh_complete_many, Promise};
 
-use answers::seen;
 use completion_answers::put_many;
 use memory::WORDS;
 use model::PortId;
@@ -19,7 +18,6 @@ pub extern "C" fn kh_complete_many(
 ) -> u32
     ensures { Promise memory.old (kh_complete_many rings.old port entries.now answer.old) (record { number = result; rings = rings.new; answer = answer.new; memory = memory.new }) }
 {
-    seen(answer);
     let completed = lists::complete_many(memory, rings, PortId(port), entries, answer);
     put_many(answer, completed, entries.len() / ENTRY_WORDS)
 }

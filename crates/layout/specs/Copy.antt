@@ -1,4 +1,5 @@
--- What a request is copied into. The copy has one layout, the 64-bit one, whatever its guest's: so what judges a request has one layout too.
+-- What a request is copied into. The copy has one layout, the 64-bit one, whatever its guest's: so what judges a
+-- request has one layout too.
 use Rattle.std.specs.Prelude.{List, ℕ}
 use Rattle.model.specs.Ring.{Layout, Request, layout_of, request_of}
 use Rattle.model.specs.declared.Abi.{Abi}

@@ -1,5 +1,5 @@
-// The numbers of a guest's ring: its header, its slots, the fields of a request and of a response (section 2 of docs/RULES.md), by the guest's layout and the
-// ring's pages.
+// The numbers of a guest's ring: its header, its slots, the fields of a request and of a response (section 2 of
+// docs/RULES.md), by the guest's layout and the ring's pages.
 #![tactic(auto, unfolding(model::specs::Ring::ring_for))]
 
 ghost use Rattle.std.specs.Prelude.{◌≡◌, ◌+◌, ◌*◌, ◌<◌, ◌≤◌, ltb};
@@ -35,13 +35,14 @@ pub const REQUEST_OPERATION: usize = 0;
 
 pub const REQUEST_COUNT: usize = 1;
 
-// The bytes that a request of any layout begins with: operation, count or flag, handle (rules 2.5 and 2.8); and those from its id on.
+// The bytes that a request of any layout begins with: operation, count or flag, handle (rules 2.5 and 2.8); and those
+// from its id on.
 pub const HEAD_BYTES: usize = 4;
 
 pub const REST_BYTES: usize = 104;
 
-// A copied request has the 64-bit layout, whatever its guest's: where it keeps its id, its start sector, and its segments or a discard's sector count
-// (rules 2.5 and 2.8).
+// A copied request has the 64-bit layout, whatever its guest's: where it keeps its id, its start sector, and its
+// segments or a discard's sector count (rules 2.5 and 2.8).
 pub const COPY_ID: usize = 8;
 
 pub const COPY_START: usize = 16;
@@ -55,7 +56,8 @@ pub const SEGMENT_FIRST: usize = 4;
 
 pub const SEGMENT_LAST: usize = 5;
 
-// Where a response of any layout, which begins with its id, keeps its operation and its status, and where its padding starts (rule 2.10).
+// Where a response of any layout, which begins with its id, keeps its operation and its status, and where its padding
+// starts (rule 2.10).
 pub const RESPONSE_OPERATION: usize = 8;
 
 pub const RESPONSE_STATUS: usize = 10;
@@ -83,10 +85,7 @@ pub fn ring_size(pages: Pages) -> u32
 pub fn has_tag(pages: Pages, t: u32) -> bool
     ensures { (abi : Abi) → result ≡ ltb t (ring_for abi pages).size }
 {
-    if t < PAGE_SLOTS {
-        return true;
-    }
-    t < ring_size(pages)
+    t < PAGE_SLOTS || t < ring_size(pages)
 }
 
 // The bytes of a ring: those that it has of its port's share.

@@ -1,201 +1,188 @@
-// Answers, as text.
+// Answers, as text: words and numbers, each behind a blank.
 use completion_answers::many::MANY_STATUSES;
-use model::buffer::{MANY_WORDS, RINGS_BYTES, TURN_EXTENTS, TURN_WORDS};
-use model::limit::{EXTENT_WORDS, MOST_COMPLETIONS, PLAN_WORDS};
-use model::{
-    Completed, CompletedMany, Counters, Plan, PortId, Reply, Serial, Status, TagId, Turned,
-};
-use std::io;
-use std::io::Write;
+use model::buffer::{MANY_WORDS, RINGS_BYTES, TURN_EXTENTS, TURN_EXTENTS_END, TURN_WORDS};
+use model::limit::EXTENT_WORDS;
+use model::{Completed, CompletedMany, Counters, Plan, Refusal, Status, Turned};
+use std::fmt;
 
-pub fn text<W: Write>(out: &mut W, s: &[u8]) -> io::Result<()> {
-    out.write_all(s)
+// What a call answers, or a part of it.
+#[derive(Clone, Copy)]
+pub struct Text<T>(pub T);
+
+// A word that stands only where it is so.
+fn mark(is_so: bool, word: &str) -> &str {
+    if is_so { word } else { "" }
 }
 
-// A number behind a blank.
-fn word<W: Write>(out: &mut W, w: u64) -> io::Result<()> {
-    write!(out, " {w}")
-}
-
-fn status<W: Write>(out: &mut W, s: Status) -> io::Result<()> {
-    match s {
-        Status::Okay => text(out, b" status 0"),
-        Status::Error => text(out, b" status -1"),
-        Status::NotSupported => text(out, b" status -2"),
-    }
-}
-
-fn notify<W: Write>(out: &mut W, yes: bool) -> io::Result<()> {
-    if yes {
-        text(out, b" notify")?;
-    }
-    Ok(())
-}
-
-fn refused<W: Write>(out: &mut W, n: u32) -> io::Result<()> {
-    text(out, b" refused")?;
-    word(out, n as u64)
-}
-
-// The words of n extents, and those of unused places where one is not zero.
-fn extents<W: Write>(out: &mut W, answer: &[u64; TURN_WORDS], n: u64) -> io::Result<()> {
-    for i in 0..PLAN_WORDS {
-        if ((i / EXTENT_WORDS) as u64) < n || answer[TURN_EXTENTS + i] != 0 {
-            if i % EXTENT_WORDS == 0 {
-                text(out, b" |")?;
-            }
-            word(out, answer[TURN_EXTENTS + i])?;
+impl<T: Copy> fmt::Display for Text<Result<T, Refusal>>
+where
+    Text<T>: fmt::Display,
+{
+    fn fmt<W: fmt::Write>(&self, f: &mut fmt::Formatter<W>) -> fmt::Result {
+        match self.0 {
+            Ok(answer) => Text(answer).fmt(f),
+            Err(refusal) => Text(refusal).fmt(f),
         }
     }
-    Ok(())
 }
 
-fn plan<W: Write>(out: &mut W, p: Plan) -> io::Result<()> {
-    text(out, b" operation")?;
-    word(out, p.operation as u64)?;
-    text(out, b" start")?;
-    word(out, p.start)?;
-    text(out, b" count")?;
-    word(out, p.count)?;
-    if p.secure {
-        text(out, b" secure")?;
+impl fmt::Display for Text<Refusal> {
+    fn fmt<W: fmt::Write>(&self, f: &mut fmt::Formatter<W>) -> fmt::Result {
+        write!(f, " refused {}", u32::from(self.0))
     }
-    text(out, b" extents")?;
-    word(out, p.extents)
-}
-
-fn started<W: Write>(out: &mut W, port: PortId, tag: TagId, serial: Serial) -> io::Result<()> {
-    text(out, b" started port")?;
-    word(out, port.0 as u64)?;
-    text(out, b" tag")?;
-    word(out, tag.0 as u64)?;
-    text(out, b" serial")?;
-    word(out, serial.0 as u64)
-}
-
-fn answered<W: Write>(
-    out: &mut W,
-    port: PortId,
-    reason: u32,
-    s: Status,
-    yes: bool,
-) -> io::Result<()> {
-    text(out, b" answered port")?;
-    word(out, port.0 as u64)?;
-    text(out, b" reason")?;
-    word(out, reason as u64)?;
-    status(out, s)?;
-    notify(out, yes)
 }
 
 // The answer of open and close.
-pub fn reply<W: Write>(out: &mut W, r: Reply) -> io::Result<()> {
-    match r {
-        Reply::Refused(n) => refused(out, n),
-        Reply::Done => text(out, b" done"),
+impl fmt::Display for Text<()> {
+    fn fmt<W: fmt::Write>(&self, f: &mut fmt::Formatter<W>) -> fmt::Result {
+        write!(f, " done")
     }
 }
 
-// The answer of a turn, with the extents that it leaves. A refused turn leaves them as they were, and shows none.
-pub fn turned<W: Write>(out: &mut W, t: Turned, answer: &[u64; TURN_WORDS]) -> io::Result<()> {
-    match t {
-        Turned::Refused(n) => refused(out, n),
-        Turned::Idle => {
-            text(out, b" idle")?;
-            extents(out, answer, 0)
-        }
-        Turned::Overrun(port) => {
-            text(out, b" overrun port")?;
-            word(out, port.0 as u64)?;
-            extents(out, answer, 0)
-        }
-        Turned::Started(port, tag, serial, p) => {
-            let n = p.extents;
-            started(out, port, tag, serial)?;
-            plan(out, p)?;
-            extents(out, answer, n)
-        }
-        Turned::Answered(port, reason, s, yes) => {
-            answered(out, port, reason, s, yes)?;
-            extents(out, answer, 0)
+impl fmt::Display for Text<Status> {
+    fn fmt<W: fmt::Write>(&self, f: &mut fmt::Formatter<W>) -> fmt::Result {
+        write!(f, " status {}", i16::from(self.0))
+    }
+}
+
+impl fmt::Display for Text<Plan> {
+    fn fmt<W: fmt::Write>(&self, f: &mut fmt::Formatter<W>) -> fmt::Result {
+        let plan = self.0;
+        let secure = mark(plan.secure, " secure");
+        write!(
+            f,
+            " operation {} start {} count {}{secure} extents {}",
+            plan.operation, plan.start, plan.count, plan.extents
+        )
+    }
+}
+
+impl fmt::Display for Text<Turned> {
+    fn fmt<W: fmt::Write>(&self, f: &mut fmt::Formatter<W>) -> fmt::Result {
+        match self.0 {
+            Turned::Idle => write!(f, " idle"),
+            Turned::Overrun(port) => write!(f, " overrun port {}", port.0),
+            Turned::Started(port, tag, serial, plan) => {
+                let plan = Text(plan);
+                write!(
+                    f,
+                    " started port {} tag {} serial {}{plan}",
+                    port.0, tag.0, serial.0
+                )
+            }
+            Turned::Answered(port, fault, notify) => {
+                let reason = u32::from(fault.reason);
+                let status = Text(fault.status);
+                let notify = mark(notify, " notify");
+                write!(
+                    f,
+                    " answered port {} reason {reason}{status}{notify}",
+                    port.0
+                )
+            }
         }
     }
 }
 
 // The answer of a completion.
-pub fn completed<W: Write>(out: &mut W, c: Completed) -> io::Result<()> {
-    match c {
-        Completed::Refused(n) => refused(out, n),
-        Completed::Done(port, s, yes) => {
-            text(out, b" done port")?;
-            word(out, port.0 as u64)?;
-            status(out, s)?;
-            notify(out, yes)
-        }
+impl fmt::Display for Text<Completed> {
+    fn fmt<W: fmt::Write>(&self, f: &mut fmt::Formatter<W>) -> fmt::Result {
+        let done = self.0;
+        let status = Text(done.status);
+        let notify = mark(done.notify, " notify");
+        write!(f, " done port {}{status}{notify}", done.port.0)
     }
-}
-
-// A status of a list, by its word without the sign. One that no entry has shows only where it is not zero.
-fn status_word<W: Write>(out: &mut W, s: u64, counts: bool) -> io::Result<()> {
-    if s != 0 {
-        return write!(out, " -{s}");
-    }
-    if counts {
-        text(out, b" 0")?;
-    }
-    Ok(())
-}
-
-// The statuses of a list of n entries.
-fn statuses<W: Write>(out: &mut W, answer: &[u64; MANY_WORDS], n: usize) -> io::Result<()> {
-    for i in 0..MOST_COMPLETIONS {
-        status_word(out, answer[MANY_STATUSES + i], i < n)?;
-    }
-    Ok(())
-}
-
-// The answer to a list of so many completions, with its statuses.
-pub fn listed<W: Write>(
-    out: &mut W,
-    c: CompletedMany,
-    answer: &[u64; MANY_WORDS],
-    count: usize,
-) -> io::Result<()> {
-    match c {
-        CompletedMany::Refused(n) => refused(out, n),
-        CompletedMany::Done(_, yes) => {
-            text(out, b" done")?;
-            statuses(out, answer, count)?;
-            notify(out, yes)
-        }
-    }
-}
-
-// A ring byte and its place.
-fn byte<W: Write>(out: &mut W, place: usize, b: u8) -> io::Result<()> {
-    write!(out, " {place}:{b}")
-}
-
-// Each ring byte that differs from what was shown last; from then on it counts as shown.
-pub fn changed<W: Write>(
-    out: &mut W,
-    shown: &mut [u8; RINGS_BYTES],
-    rings: &[u8; RINGS_BYTES],
-) -> io::Result<()> {
-    for i in 0..RINGS_BYTES {
-        let b = rings[i];
-        if shown[i] != b {
-            byte(out, i, b)?;
-            shown[i] = b;
-        }
-    }
-    Ok(())
 }
 
 // The four numbers.
-pub fn counters<W: Write>(out: &mut W, c: Counters) -> io::Result<()> {
-    word(out, c.taken)?;
-    word(out, c.okay)?;
-    word(out, c.error)?;
-    word(out, c.unsupported)
+impl fmt::Display for Text<Counters> {
+    fn fmt<W: fmt::Write>(&self, f: &mut fmt::Formatter<W>) -> fmt::Result {
+        let counters = self.0;
+        write!(
+            f,
+            " {} {} {} {}",
+            counters.taken, counters.okay, counters.error, counters.unsupported
+        )
+    }
+}
+
+// The answer of a turn, with the words that it leaves.
+#[derive(Clone, Copy)]
+pub struct TurnAnswer<'a> {
+    pub turned: Result<Turned, Refusal>,
+    pub words: &'a [u64; TURN_WORDS],
+}
+
+// The words of the extents stand behind a bar each, and with them those of unused places where one is not zero.
+// A refused turn leaves the words as they were, and shows none.
+impl fmt::Display for TurnAnswer<'_> {
+    fn fmt<W: fmt::Write>(&self, f: &mut fmt::Formatter<W>) -> fmt::Result {
+        let TurnAnswer { turned, words } = *self;
+        Text(turned).fmt(f)?;
+        let count = match turned {
+            Ok(Turned::Started(.., plan)) => plan.extents,
+            Ok(_) => 0,
+            Err(_) => return Ok(()),
+        };
+        let extents = &words[TURN_EXTENTS..TURN_EXTENTS_END];
+        for (i, word) in extents.iter().enumerate() {
+            let is_used = ((i / EXTENT_WORDS) as u64) < count;
+            if is_used || *word != 0 {
+                let bar = mark(i % EXTENT_WORDS == 0, " |");
+                write!(f, "{bar} {word}")?;
+            }
+        }
+        Ok(())
+    }
+}
+
+// The answer to a list of so many completions, with the words that it leaves.
+#[derive(Clone, Copy)]
+pub struct ListAnswer<'a> {
+    pub completed: Result<CompletedMany, Refusal>,
+    pub words: &'a [u64; MANY_WORDS],
+    pub count: usize,
+}
+
+// A status stands as its word, without the sign. One that no entry has shows only where it is not zero.
+impl fmt::Display for ListAnswer<'_> {
+    fn fmt<W: fmt::Write>(&self, f: &mut fmt::Formatter<W>) -> fmt::Result {
+        let ListAnswer {
+            completed,
+            words,
+            count,
+        } = *self;
+        let done = match completed {
+            Ok(done) => done,
+            Err(refusal) => return Text(refusal).fmt(f),
+        };
+        write!(f, " done")?;
+        for (i, status) in words[MANY_STATUSES..].iter().enumerate() {
+            if *status != 0 {
+                write!(f, " -{status}")?;
+            } else if i < count {
+                write!(f, " 0")?;
+            }
+        }
+        write!(f, "{}", mark(done.notify, " notify"))
+    }
+}
+
+// The ring bytes that a call changed.
+#[derive(Clone, Copy)]
+pub struct Changes<'a> {
+    pub before: &'a [u8; RINGS_BYTES],
+    pub after: &'a [u8; RINGS_BYTES],
+}
+
+impl fmt::Display for Changes<'_> {
+    fn fmt<W: fmt::Write>(&self, f: &mut fmt::Formatter<W>) -> fmt::Result {
+        let Changes { before, after } = *self;
+        for (place, (old, new)) in before.iter().zip(after).enumerate() {
+            if old != new {
+                write!(f, " {place}:{new}")?;
+            }
+        }
+        Ok(())
+    }
 }

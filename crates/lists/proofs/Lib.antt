@@ -1,4 +1,3 @@
 pub mod Lists
 pub mod Passes
 pub mod Ways
-pub mod Rest

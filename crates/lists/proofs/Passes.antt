@@ -1,15 +1,17 @@
 -- The second pass over a list of completions, entry by entry: what is left of it comes to what the whole of it does. Assumes nothing.
 use mathlib.Core.Path.{◌≡◌, sym, ap, ◌∙◌}
 use mathlib.Core.List.{List, [], ◌∷◌}
-use Prim.Native.Nat.{ℕ, suc, ◌+◌, ◌-◌, ◌*◌, ◌/◌, ◌≤◌, ◌<◌}
+use Prim.Native.Nat.{ℕ, suc, ◌+◌, ◌-◌, ◌/◌, ◌≤◌, ◌<◌}
 use native.Mathlib.Omega.{arith}
+use native.Mathlib.Nat.{add-zero}
+use Rattle.std.specs.Simd.{first_chunks}
 use lib.ListN.{length, get_or, set}
 use lib.Seq.{sets}
 use mir.Syntax.{w64}
 use mir.Val.{to_z}
 use Rattle.model.specs.Answers.{magnitude, magnitudes}
 use Rattle.model.specs.Backend.{Backend, with_tag}
-use Rattle.model.specs.Complete.{Completion, entry_words, completion_at, completions_from, completions_in}
+use Rattle.model.specs.Complete.{Completion, entry_words, completions_from, completions_in}
 use Rattle.model.specs.Port.{zero_tag, after}
 use Rattle.model.specs.Ring.{Ring, layout_of, ring_for, slot_at, set_response}
 use Rattle.model.specs.Turn.{ResponseDue, written}
@@ -19,11 +21,17 @@ use Rattle.model.specs.declared.Status.{Status}
 use Rattle.model.proofs.Page.{length-set_response}
 use Rattle.memory.specs.Backend.{backend_of, Becomes}
 use Rattle.memory.proofs.Changes.{unchanged, then, restated}
-use Rattle.entries.proofs.FirstPass.{from_next, from-none, from_first}
-use Rattle.lists.specs.List.{due_for, responses_along, emptied, EntryFinished, statuses_at, statuses_of, AllFinished}
+use Rattle.entries.proofs.FirstPass.{word_of, entry_of, from_next, from-none, from_first}
+use Rattle.memory.specs.Layout.{tags}
+use Rattle.lists.specs.List.{TagsNamed, due_for, responses_along, emptied, EntryFinished, statuses_at, statuses_of, AllFinished}
 
 abbrev rest : List ℕ → ℕ → List Completion
 rest words i = completions_from (length words / entry_words - i) words i
+
+-- every entry names a tag that there is, also as an array of three words
+pub tag-named : (words : List ℕ) (whole : List (List ℕ)) → whole ≡ first_chunks entry_words (length words / entry_words) words → TagsNamed words
+    → (i : ℕ) → i < length words / entry_words → get_or (get_or whole i []) 0 0 < tags
+tag-named words whole r h i l = rw (r, word_of (length words / entry_words) words i 0 l (omega arith), add-zero) (h i l)
 
 -- Before entry i: what the entries from there on will do to the page, the answer and the memory comes to what all of them do to those of the beginning.
 pub record Underway (m before : List ℕ) (k : ℕ) (g : Ring) (produced : ℕ) (words lent : List ℕ) (i index : ℕ) (now page answer : List ℕ) : Type 0 where
@@ -50,18 +58,19 @@ underway-first m before k g produced words lent l =
 module _ (abi : Abi) (pages : Pages) {m before : List ℕ} {k : ℕ} {produced : ℕ} {words lent : List ℕ} {i index : ℕ} {now page answer : List ℕ}
     (u : Underway m before k (ring_for abi pages) produced words lent i index now page answer) where
   -- entry i is done
-  pub underway-next : i < length words / entry_words → (put : List ℕ) (s : Status) (left : List ℕ)
-      → EntryFinished now page k abi pages index (get_or words (entry_words * i) 0) (get_or words (entry_words * i + 2) 0) put s left
+  pub underway-next : i < length words / entry_words → (whole : List (List ℕ)) → whole ≡ first_chunks entry_words (length words / entry_words) words
+      → (put : List ℕ) (s : Status) (left : List ℕ)
+      → EntryFinished now page k abi pages index (get_or (get_or whole i []) 0 0) (get_or (get_or whole i []) 2 0) put s left
       → Underway m before k (ring_for abi pages) produced words lent (i + 1) (after index) left put (set answer (statuses_at + i) (magnitude s))
-  unfolding responses_along emptied written completion_at ring_for
-  underway-next l put s left e =
+  unfolding responses_along emptied written ring_for
+  underway-next l whole r put s left e =
       let g = ring_for abi pages in
       let b = backend_of now in
-      let t = get_or words (entry_words * i) 0 in
+      let t = get_or (get_or whole i []) 0 0 in
       let cs = rest words (i + 1) in
-      let x = due_for (b.tag k t) (to_z w64 (get_or words (entry_words * i + 2) 0)) in
+      let x = due_for (b.tag k t) (to_z w64 (get_or (get_or whole i []) 2 0)) in
       let xs = responses_along (with_tag b k t zero_tag) k cs in
-      let cut = from_next (length words / entry_words) words i l in
+      let cut : rest words i ≡ entry_of (get_or whole i []) ∷ cs = rw r (from_next (length words / entry_words) words i l) in
       let these : responses_along b k (rest words i) ≡ x ∷ xs = ap (responses_along b k) cut in
       let those : responses_along (backend_of left) k cs ≡ xs = ap (λ (c : Backend). responses_along c k cs) e.memory.backend in
       let page' : put ≡ set_response (layout_of abi) page (slot_at g index) x.pair x.status =

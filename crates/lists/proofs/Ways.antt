@@ -6,23 +6,25 @@ use Prim.Native.Nat.{ℕ, zero, suc, ◌+◌, ◌-◌, ◌*◌, ◌/◌, ◌%◌
 use native.Mathlib.Nat.{add-zero, zero-add}
 use native.Mathlib.Omega.{arith}
 use lib.Dec.{ltb}
+use Rattle.std.specs.Prelude.{Option, Some, None, Result, Ok, Err}
 use lib.ListN.{length, get_or, take, drop, set, replicate, length-append, length-map, length-replicate, drop_of_length-le}
 use lib.Seq.{sets, sets-eq}
-use borrow.Author.Tests.{le-leb, lt-leb, lt-ltb, le-ltb, eq-eqb, ne_eqb}
+use borrow.Author.Tests.{le-leb, lt-leb, leb-true, leb-false, lt-ltb, le-ltb, eq-eqb, ne_eqb}
 use Rattle.model.specs.Answers.{magnitude, magnitudes, status_words}
 use Rattle.model.specs.Backend.{Backend, view_of, with_port, with_pointer, does_all, next}
 use Rattle.model.specs.Base.{modulus}
 use Rattle.model.specs.Buffers.{ports, rings_length, pages_of, set_pages}
-use Rattle.model.specs.Calls.{Call, Complete, none_done, all_done, CompleteEffect, most_completions}
+use Rattle.model.specs.Calls.{Reply, Call, Complete, none_done, all_done, CompleteEffect, most_completions}
 use Rattle.model.specs.Complete.{Completion, entry_words, completion_at, completions_from, completions_in, responses_for, completed}
 use Rattle.model.specs.Deeds.{deeds, finishings}
 use Rattle.model.specs.Port.{is_closed, Holder, free, held, is_free, tag_of, is_busy, distance, further}
 use Rattle.model.specs.Ring.{Ring, rsp_event, set_rsp_prod, slot_at, ring_of}
-use Rattle.model.specs.Rules.{names_none, any_names_none, named_twice, refused_completion, due_complete, effect_due}
+use Rattle.model.specs.Rules.{no_port, names_none, any_names_none, named_twice, refused_completion, due_complete, effect_due}
 use Rattle.model.specs.Turn.{port_id, ring_at, ResponseDue, written, responded_all, responded_all_at, tells, notifies_all}
 use Rattle.model.specs.declared.CompletedMany.{CompletedMany}
 use Rattle.model.specs.declared.Port.{Port}
 use Rattle.model.specs.declared.PortId.{PortId}
+use Rattle.model.specs.declared.Refusal.{Refusal}
 use Rattle.model.specs.declared.Status.{Status}
 use Rattle.model.specs.declared.Tag.{Tag}
 use Rattle.model.proofs.Base.{clash, or_left, or_right}
@@ -36,9 +38,9 @@ use Rattle.memory.specs.Layout.{tags}
 use Rattle.memory.specs.Promise.{Promised}
 use Rattle.memory.proofs.Backend.{backend-ranged}
 use Rattle.memory.proofs.Changes.{then, restated, fields-become, promised, nothing-done}
+use Rattle.completion.specs.Steps.{in_use_due}
 use Rattle.completion.proofs.Completions.{does-pointer, pointer-kept}
 use Rattle.entries.specs.Entries.{holder_in, left_of}
-use Rattle.entries.specs.declared.Left.{Left}
 use Rattle.entries.proofs.FirstPass.{cleared, left-of}
 use Rattle.lists.specs.List.{responses_along, emptied, TagsNamed, statuses_at, statuses_of, port_with, ListFinished, many_of, many_filled, ManyPromised}
 use Rattle.lists.proofs.Lists.{responses-along, emptied-ports, does-list}
@@ -103,7 +105,7 @@ fields-left {m = m} k cs p n v marks e f a b c =
 
 -- ---- what the first pass found
 
-no-left : {A : Type 0} {marks : ℕ} → Left.NotNamed ≡ Left.Busy marks → A
+no-left : {A : Type 0} {marks : ℕ} → ◌≡◌ {A = Option ℕ} None (Some marks) → A
 no-left e = let bad : ◌≡◌ {A = ℕ} 0 1 = cc in absurd (omega arith)
 
 -- entries that are not at fault name tags of the ring
@@ -123,23 +125,23 @@ module _ (g : Ring) (keep : ℕ → Tag) (busy : ℕ) (cs : List Completion) whe
   fault = any_names_none g (holder_in busy keep) cs || named_twice cs
 
   -- an entry at fault, where it said so,
-  pub left-fault : Left.NotNamed ≡ left_of g keep busy cs → fault ≡ true
+  pub left-fault : None ≡ left_of g keep busy cs → fault ≡ true
   left-fault e = go fault (e ∙ left-of g keep cs busy)
     where
-      go : (d : Bool) → Left.NotNamed ≡ cond d Left.NotNamed (Left.Busy (cleared busy cs)) → d ≡ true
+      go : (d : Bool) → None ≡ cond d None (Some (cleared busy cs)) → d ≡ true
       go true q = refl
       go false q = no-left q
 
   -- and none where it gave the marks that are left
-  pub left-marks : (marks : ℕ) → Left.Busy marks ≡ left_of g keep busy cs → (fault ≡ false) × (marks ≡ cleared busy cs)
+  pub left-marks : (marks : ℕ) → Some marks ≡ left_of g keep busy cs → (fault ≡ false) × (marks ≡ cleared busy cs)
   left-marks marks e = go fault (e ∙ left-of g keep cs busy)
     where
-      go : (d : Bool) → Left.Busy marks ≡ cond d Left.NotNamed (Left.Busy (cleared busy cs)) → (d ≡ false) × (marks ≡ cleared busy cs)
+      go : (d : Bool) → Some marks ≡ cond d None (Some (cleared busy cs)) → (d ≡ false) × (marks ≡ cleared busy cs)
       go true q = no-left (sym q)
       go false q = (refl, cc)
 
 -- the entries then name tags that there are
-pub named-tags : (g : Ring) (keep : ℕ → Tag) (busy marks : ℕ) (words : List ℕ) → g.size ≤ tags → Left.Busy marks ≡ left_of g keep busy (completions_in words) → TagsNamed words
+pub named-tags : (g : Ring) (keep : ℕ → Tag) (busy marks : ℕ) (words : List ℕ) → g.size ≤ tags → Some marks ≡ left_of g keep busy (completions_in words) → TagsNamed words
 unfolding completions_in
 named-tags g keep busy marks words l e i h =
     rw (zero-add i) at (tags-from g (holder_in busy keep) (length words / entry_words) words 0 l (or_left _ _ (left-marks g keep busy (completions_in words) marks e).0) i h)
@@ -184,7 +186,7 @@ module _ (m rings : List ℕ) (p : PortId) (words lent : List ℕ) where
   cs = completions_in words
 
   -- as every call promises, with the answer in two parts
-  many : (e : CompleteEffect) (left : List ℕ) → Promised m call e left → (r : CompletedMany) (after : List ℕ) → r ≡ many_of e.answer → after ≡ many_filled e.answer lent
+  many : (e : CompleteEffect) (left : List ℕ) → Promised m call e left → (r : Result CompletedMany Refusal) (after : List ℕ) → r ≡ many_of e.answer → after ≡ many_filled e.answer lent
       → ManyPromised m rings p words lent e.rings r after left
   many e left q r after x y = record {
     rings = ap (λ (o : CompleteEffect). o.rings) q.effect;
@@ -194,37 +196,52 @@ module _ (m rings : List ℕ) (p : PortId) (words lent : List ℕ) where
     still = λ d. q.still (subst (λ (o : CompleteEffect). deeds call o ≡ []) (sym q.effect) d);
   }
 
-  abbrev Refused : ℕ → Type 0
-  Refused n = ManyPromised m rings p words lent rings (CompletedMany.Refused n) lent m
+  abbrev Refused : Refusal → Type 0
+  Refused why = ManyPromised m rings p words lent rings (Err why) lent m
 
-  refused : (n : ℕ) → due_complete (view_of b) rings p words ≡ refused_completion rings n → Refused n
+  refused : (why : Refusal) → due_complete (view_of b) rings p words ≡ refused_completion rings why → Refused why
   unfolding effect_due refused_completion
-  refused n e = many (record { rings = rings; answer = none_done n }) m (nothing-done m call (record { rings = rings; answer = none_done n }) (sym e) refl refl) _ lent refl refl
+  refused why e = many (record { rings = rings; answer = none_done why }) m (nothing-done m call (record { rings = rings; answer = none_done why }) (sym e) refl refl) _ lent refl refl
 
-  pub list-wrong-rings : (length rings ≡ rings_length → ⊥) → Refused 1
+  pub list-wrong-rings : (length rings ≡ rings_length → ⊥) → Refused Refusal.WrongLength
   unfolding due_complete
-  list-wrong-rings n = refused 1 (rw (ne_eqb _ _ n))
+  list-wrong-rings n = refused Refusal.WrongLength (rw (ne_eqb _ _ n))
 
   module _ (n : length rings ≡ rings_length) where
-    pub list-wrong-words : (length words % entry_words ≡ 0 → ⊥) → Refused 1
+    pub list-wrong-words : (length words % entry_words ≡ 0 → ⊥) → Refused Refusal.WrongLength
     unfolding due_complete
-    list-wrong-words w = refused 1 (rw (eq-eqb _ _ n, ne_eqb _ _ w))
+    list-wrong-words w = refused Refusal.WrongLength (rw (eq-eqb _ _ n, ne_eqb _ _ w))
 
     module _ (w : length words % entry_words ≡ 0) where
-      pub list-no-port : ports ≤ p.0 → Refused 2
+      list-no-port : ports ≤ p.0 → Refused Refusal.NoPort
       unfolding due_complete
-      list-no-port h = refused 2 (rw (eq-eqb _ _ n, eq-eqb _ _ w, le-leb ports p.0 h))
+      list-no-port h = refused Refusal.NoPort (rw (eq-eqb _ _ n, eq-eqb _ _ w, le-leb ports p.0 h))
 
       module _ (h : p.0 < ports) where
-        pub list-closed : is_closed (b.port p.0).state ≡ true → Refused 4
+        list-closed : is_closed (b.port p.0).state ≡ true → Refused Refusal.IsClosed
         unfolding due_complete
-        list-closed c = refused 4 (rw (eq-eqb _ _ n, eq-eqb _ _ w, lt-leb ports p.0 h, view-state b p.0, c))
+        list-closed c = refused Refusal.IsClosed (rw (eq-eqb _ _ n, eq-eqb _ _ w, lt-leb ports p.0 h, view-state b p.0, c))
 
+      -- no such port, or a closed one
+      pub list-unused : (why : Refusal) → in_use_due b p ≡ Err why → Refused why
+      list-unused why = go (no_port p) (is_closed (b.port p.0).state) refl refl
+        where
+          go : (d e : Bool) → no_port p ≡ d → is_closed (b.port p.0).state ≡ e
+              → ◌≡◌ {A = Reply} (cond d (Err Refusal.NoPort) (cond e (Err Refusal.IsClosed) (Ok tt))) (Err why) → Refused why
+          go true e none closed q =
+              let z : why ≡ Refusal.NoPort = cc in
+              rw z (list-no-port (leb-true ports p.0 none))
+          go false true none closed q =
+              let z : why ≡ Refusal.IsClosed = cc in
+              rw z (list-closed (omega (arith, leb-false ports p.0 none)) closed)
+          go false false none closed q = let z : ◌≡◌ {A = ℕ} 0 1 = cc in absurd (omega arith)
+
+      module _ (h : p.0 < ports) where
         module _ (c : is_closed (b.port p.0).state ≡ false) where
-          pub list-too-long : entry_words * most_completions < length words → Refused 7
+          pub list-too-long : entry_words * most_completions < length words → Refused Refusal.TooMany
           unfolding due_complete
           list-too-long l =
-              refused 7 (rw (eq-eqb _ _ n, eq-eqb _ _ w, lt-leb ports p.0 h, view-state b p.0, c, lt-ltb most_completions (length cs) (omega (arith, length-in words))))
+              refused Refusal.TooMany (rw (eq-eqb _ _ n, eq-eqb _ _ w, lt-leb ports p.0 h, view-state b p.0, c, lt-ltb most_completions (length cs) (omega (arith, length-in words))))
 
           module _ (few : length words ≤ entry_words * most_completions) where
             count : length cs ≤ most_completions
@@ -236,10 +253,10 @@ module _ (m rings : List ℕ) (p : PortId) (words lent : List ℕ) where
             unfolding view_of
             faulty d e = e
 
-            pub list-at-fault : Left.NotNamed ≡ left_of (ring_of (b.port p.0).params) (b.tag p.0) (b.port p.0).busy cs → Refused 6
+            pub list-at-fault : None ≡ left_of (ring_of (b.port p.0).params) (b.tag p.0) (b.port p.0).busy cs → Refused Refusal.NotBusy
             unfolding due_complete
             list-at-fault e =
-                refused 6 (rw (eq-eqb _ _ n, eq-eqb _ _ w, lt-leb ports p.0 h, view-state b p.0, c, le-ltb most_completions (length cs) count, faulty true (left-fault _ _ _ cs e)))
+                refused Refusal.NotBusy (rw (eq-eqb _ _ n, eq-eqb _ _ w, lt-leb ports p.0 h, view-state b p.0, c, le-ltb most_completions (length cs) count, faulty true (left-fault _ _ _ cs e)))
 
             done-due : fault (ring_of (b.port p.0).params) (b.tag p.0) (b.port p.0).busy cs ≡ false
                 → due_complete (view_of b) rings p words ≡ completed (view_of b) rings p.0 cs
@@ -248,7 +265,7 @@ module _ (m rings : List ℕ) (p : PortId) (words lent : List ℕ) where
 
             -- with no entries nothing is done but the words of the answer
             pub list-empty : length words ≡ 0 → length lent ≡ 68
-                → ManyPromised m rings p words lent rings (CompletedMany.Done p false) (sets lent (statuses_at + 0) (replicate most_completions 0)) m
+                → ManyPromised m rings p words lent rings (Ok (record { port = p; notify = false })) (sets lent (statuses_at + 0) (replicate most_completions 0)) m
             unfolding effect_due completed responses_for any_names_none named_twice
             list-empty z l =
                 let k = p.0 in
@@ -257,14 +274,14 @@ module _ (m rings : List ℕ) (p : PortId) (words lent : List ℕ) where
                 let quiet : notifies_all (view_of b) rings k 0 ≡ false = view-notifies-all b k rings 0 ∙ tells_none (b.port k).produced _ (backend-ranged m k).produced in
                 let right : due_complete (view_of b) rings p words ≡ e =
                 done-due (rw no) ∙ rw no (λ i. record { rings = none-responded (view_of b) rings k i; answer = all_done (port_id k) [] (quiet i) }) in
-                many e m (nothing-done m call e (sym right) (rw no) refl) (CompletedMany.Done p false) (sets lent (statuses_at + 0) (replicate most_completions 0)) refl
+                many e m (nothing-done m call e (sym right) (rw no) refl) (Ok (record { port = p; notify = false })) (sets lent (statuses_at + 0) (replicate most_completions 0)) refl
                 (filled-words lent [] 0 l refl (omega arith))
 
             -- a list that is answered, and leaves these marks
             pub list_done : (marks : ℕ) → 0 < length words / entry_words
-                → Left.Busy marks ≡ left_of (ring_of (b.port p.0).params) (b.tag p.0) (b.port p.0).busy cs
+                → Some marks ≡ left_of (ring_of (b.port p.0).params) (b.tag p.0) (b.port p.0).busy cs
                 → (put : List ℕ) (r : CompletedMany) (after left : List ℕ) → ListFinished m rings p marks words lent put r after left
-                → ManyPromised m rings p words lent put r after left
+                → ManyPromised m rings p words lent put (Ok r) after left
             unfolding effect_due completed next
             list_done marks some found put r after left z =
                 let k = p.0 in
@@ -281,14 +298,15 @@ module _ (m rings : List ℕ) (p : PortId) (words lent : List ℕ) where
                 z.rings
                 ∙ ap (λ (l : List ResponseDue). let g = ring_of (b.port k).params in set_pages g rings k (responded_all g (pages_of g rings k) (b.port k).produced l)) along
                 ∙ sym (view-responded-all b k rings xs) in
-                let told : r ≡ CompletedMany.Done p (notifies_all v rings k (length xs)) =
+                let done_with : Bool → CompletedMany = λ y. record { port = p; notify = y } in
+                let told : r ≡ done_with (notifies_all v rings k (length xs)) =
                 z.answer
-                ∙ ap (λ (n : ℕ). CompletedMany.Done p (tells (b.port k).produced n (rsp_event (pages_of (ring_of (b.port k).params) rings k)))) count
-                ∙ ap (CompletedMany.Done p) (sym (view-notifies-all b k rings (length xs))) in
+                ∙ ap (λ (n : ℕ). done_with (tells (b.port k).produced n (rsp_event (pages_of (ring_of (b.port k).params) rings k)))) count
+                ∙ ap done_with (sym (view-notifies-all b k rings (length xs))) in
                 let same : with_port (emptied b k cs) k (port_with (b.port k) (length words / entry_words) marks) ≡ with_pointer (does_all b (finishings e.rings k cs zs)) b.pointer =
                 (λ i. with_port (emptied b k cs) k (port_with (b.port k) (sym (length-in words) i) (f.1 i)))
                 ∙ sym (does-list cs zs b k e.rings (length-statuses (v.tag k) cs) (backend-ranged m k).produced)
                 ∙ sym (pointer-kept _ b.pointer (does-pointer cs zs b k e.rings)) in
                 let done = promised m call e left (sym (done-due f.0)) (restated z.memory same) (λ d. absurd (some-deeds cs zs e.rings k (length-statuses (v.tag k) cs) (omega (arith, length-in words)) d)) in
-                subst (λ (l : List ℕ). ManyPromised m rings p words lent l r after left) (sym rings')
-                (many e left done r after told (z.filled ∙ ap (λ (l : List ResponseDue). take statuses_at lent ++ status_words (statuses_of l)) along))
+                subst (λ (l : List ℕ). ManyPromised m rings p words lent l (Ok r) after left) (sym rings')
+                (many e left done (Ok r) after (ap (λ (c : CompletedMany). Ok c) told) (z.filled ∙ ap (λ (l : List ResponseDue). take statuses_at lent ++ status_words (statuses_of l)) along))

@@ -1,16 +1,16 @@
 -- What the steps of completing a list ask and say. Entries are taken one after another, each on the memory that those before it left; that this comes to what the
 -- rules say of the list as a whole is shown in proofs/Lists.antt.
-use Rattle.std.specs.Prelude.{◌≡◌, Bool, List, [], ◌∷◌, ◌++◌, map, ℕ, ◌+◌, ◌-◌, ◌*◌, ◌/◌, ◌≤◌, ◌<◌, ℤ, length, get_or, take, replicate}
+use Rattle.std.specs.Prelude.{◌≡◌, Bool, false, List, [], ◌∷◌, ◌++◌, map, ℕ, ◌*◌, ◌/◌, ◌≤◌, ◌<◌, ℤ, length, get_or, take, Result, Ok, Err}
 use Rattle.std.proofs.lemmas.List.Edits.{sets}
 use Rattle.std.specs.Int.{w64}
 use Rattle.std.proofs.Common.{to_z}
 use Rattle.model.specs.Answers.{magnitudes, status_words}
 use Rattle.model.specs.Backend.{Backend, view_of, with_port, with_tag, after_call}
-use Rattle.model.specs.Buffers.{rings_length, pages_of, set_pages}
+use Rattle.model.specs.Buffers.{pages_of, set_pages}
 use Rattle.model.specs.Calls.{Complete, CompleteAnswer, none_done, all_done, most_completions}
 use Rattle.model.specs.Complete.{Completion, entry_words, completions_in, status_of}
 use Rattle.model.specs.Deeds.{deeds}
-use Rattle.model.specs.Port.{zero_tag, further}
+use Rattle.model.specs.Port.{is_closed, zero_tag, further}
 use Rattle.model.specs.Ring.{Ring, layout_of, ring_for, ring_of, slot_at, rsp_event, set_response}
 use Rattle.model.specs.Rules.{effect_due}
 use Rattle.model.specs.Turn.{ResponseDue, due_to, written, responded_all, tells}
@@ -19,11 +19,11 @@ use Rattle.model.specs.declared.CompletedMany.{CompletedMany}
 use Rattle.model.specs.declared.Pages.{Pages}
 use Rattle.model.specs.declared.Port.{Port}
 use Rattle.model.specs.declared.PortId.{PortId}
+use Rattle.model.specs.declared.Refusal.{Refusal}
 use Rattle.model.specs.declared.Status.{Status}
 use Rattle.model.specs.declared.Tag.{Tag}
 use Rattle.memory.specs.Backend.{backend_of, Becomes}
 use Rattle.memory.specs.Layout.{tags}
-use Rattle.memory.specs.InUse.{InUse}
 
 -- the response that a tag and a result come to
 abbrev pub due_for : Tag → ℤ → ResponseDue
@@ -56,11 +56,6 @@ statuses_at = 4
 abbrev pub statuses_of : List ResponseDue → List Status
 statuses_of xs = map (λ x. x.status) xs
 
--- the statuses from the n-th on are zeros; the answer has all its words
-pub record RestCleared (n : ℕ) (lent filled : List ℕ) : Type 0 where
-  pub long : length lent ≡ 68
-  pub zeros : filled ≡ sets lent (statuses_at + n) (replicate (most_completions - n) 0)
-
 -- every entry has its response in the ring's pages and its status in the answer, and its tag is zeroed
 pub record AllFinished (m before : List ℕ) (k : ℕ) (g : Ring) (produced : ℕ) (words lent put filled left : List ℕ) : Type 0 where
   pub page : put ≡ written g before produced (responses_along (backend_of m) k (completions_in words))
@@ -78,11 +73,10 @@ pub record AllResponded (m before : List ℕ) (k : ℕ) (g : Ring) (produced : �
 abbrev pub port_with : Port → ℕ → ℕ → Port
 port_with p n marks = record { state = p.state; params = p.params; consumed = p.consumed; produced = further p.produced n; busy = marks }
 
--- A list of some entries, whose tags there are, on a port that is open or broken.
-pub record ListTaken (b : Backend) (rings : List ℕ) (port : PortId) (p : Port) (words : List ℕ) : Type 0 where
-  pub pages : length rings ≡ rings_length
-  pub in_use : InUse b port
-  pub read : p ≡ b.port port.0
+-- A list of some entries, whose tags there are, on port k, which is open or broken.
+pub record ListTaken (b : Backend) (k : ℕ) (p : Port) (words : List ℕ) : Type 0 where
+  pub in_use : is_closed (b.port k).state ≡ false
+  pub read : p ≡ b.port k
   pub some : 0 < length words / entry_words
   pub few : length words ≤ entry_words * most_completions
   pub tagged : TagsNamed words
@@ -94,7 +88,7 @@ pub record ListFinished (m before : List ℕ) (port : PortId) (marks : ℕ) (wor
       set_pages g before port.0 (responded_all g (pages_of g before port.0) p.produced (responses_along (backend_of m) port.0 (completions_in words))))
   pub answer :
       r ≡ (let p = (backend_of m).port port.0 in
-      CompletedMany.Done port (tells p.produced (length words / entry_words) (rsp_event (pages_of (ring_of p.params) before port.0))))
+      record { port = port; notify = tells p.produced (length words / entry_words) (rsp_event (pages_of (ring_of p.params) before port.0)) })
   pub filled : after ≡ take statuses_at lent ++ status_words (statuses_of (responses_along (backend_of m) port.0 (completions_in words)))
   pub memory :
       Becomes m (with_port (emptied (backend_of m) port.0 (completions_in words)) port.0
@@ -103,17 +97,17 @@ pub record ListFinished (m before : List ℕ) (port : PortId) (marks : ℕ) (wor
 -- ---- the call
 
 -- the answer without its statuses,
-abbrev pub many_of : CompleteAnswer → CompletedMany
-many_of (none_done n) = CompletedMany.Refused n
-many_of (all_done p zs y) = CompletedMany.Done p y
+abbrev pub many_of : CompleteAnswer → Result CompletedMany Refusal
+many_of (none_done e) = Err e
+many_of (all_done p zs y) = Ok (record { port = p; notify = y })
 
 -- which stand in the words lent for it: a refusal leaves them
 abbrev pub many_filled : CompleteAnswer → List ℕ → List ℕ
-many_filled (none_done n) lent = lent
+many_filled (none_done e) lent = lent
 many_filled (all_done p zs y) lent = take statuses_at lent ++ status_words zs
 
 -- What it promises: as every call (crates/memory/specs/Promise.antt), with its answer in two parts.
-pub record ManyPromised (m before : List ℕ) (port : PortId) (words lent put : List ℕ) (r : CompletedMany) (after left : List ℕ) : Type 0 where
+pub record ManyPromised (m before : List ℕ) (port : PortId) (words lent put : List ℕ) (r : Result CompletedMany Refusal) (after left : List ℕ) : Type 0 where
   pub rings : put ≡ (effect_due (view_of (backend_of m)) (Complete before port words)).rings
   pub answer : r ≡ many_of (effect_due (view_of (backend_of m)) (Complete before port words)).answer
   pub filled : after ≡ many_filled (effect_due (view_of (backend_of m)) (Complete before port words)).answer lent

@@ -8,45 +8,45 @@ ghost use Rattle.model.specs.Ring.{page_slots, ring_for};
 ghost use Rattle.model.specs.declared.Abi.{Abi};
 
 use layout::{PAGE_SLOTS, ring_size};
-use model::Pages;
+use model::{Pages, TagIndex};
 
 // The lowest tag whose mark is clear: 64 where all are set.
 pub fn lowest_free(marks: u64) -> u32
     ensures { result ≡ least busy_bits (λ t. not (is_busy marks t)) }
 {
-    u64::trailing_zeros(!marks)
+    (!marks).trailing_zeros()
 }
 
-pub fn is_busy(marks: u64, t: u32) -> bool
-    requires { t < busy_bits }
-    ensures { result ≡ is_busy marks t }
+pub fn is_busy(marks: u64, t: TagIndex) -> bool
+    ensures { result ≡ is_busy marks t.index }
 {
-    (marks >> t) % 2 == 1
+    (marks >> t.get()) % 2 == 1
 }
 
 // A sum and no `|`: the definition is a sum, and the mark was clear.
-pub fn set_mark(marks: u64, t: u32) -> u64
-    requires { (t < busy_bits) × (is_busy marks t ≡ false) }
-    ensures { result ≡ set_busy marks t }
+pub fn set_mark(marks: u64, t: TagIndex) -> u64
+    requires { is_busy marks t.index ≡ false }
+    ensures { result ≡ set_busy marks t.index }
 {
-    marks + (1u64 << t)
+    marks + (1u64 << t.get())
 }
 
-pub fn clear_mark(marks: u64, t: u32) -> u64
-    requires { (t < busy_bits) × (is_busy marks t ≡ true) }
-    ensures { result ≡ clear_busy marks t }
+pub fn clear_mark(marks: u64, t: TagIndex) -> u64
+    requires { is_busy marks t.index ≡ true }
+    ensures { result ≡ clear_busy marks t.index }
 {
-    marks - (1u64 << t)
+    marks - (1u64 << t.get())
 }
 
 // How many tags are busy.
 pub fn in_flight(marks: u64) -> u32
     ensures { result ≡ in_flight_of marks }
 {
-    u64::count_ones(marks)
+    marks.count_ones()
 }
 
-// Whether all marks are below n: then at most n tags are busy, and none has to be counted. The lowest free tag is used first, so they often are.
+// Whether all marks are below n: then at most n tags are busy, and none has to be counted. The lowest free tag is used
+// first, so they often are.
 fn all_below(marks: u64, n: u32) -> bool
     requires { n < busy_bits }
     ensures { result ≡ true → in_flight_of marks ≤ n }
@@ -59,24 +59,20 @@ pub fn at_most(marks: u64, n: u32) -> bool
     requires { n < busy_bits }
     ensures { result ≡ leb (in_flight_of marks) n }
 {
-    if all_below(marks, n) {
-        return true;
-    }
-    in_flight(marks) <= n
+    all_below(marks, n) || in_flight(marks) <= n
 }
 
-// Whether one page has room for a distance d beside the requests in flight, as far as that is seen without counting. Then every ring has.
+// Whether one page has room for a distance d beside the requests in flight, as far as that is seen without counting.
+// Then every ring has.
 fn fits_one_page(marks: u64, d: u32) -> bool
     requires { d ≡ 0 → ⊥ }
     ensures { result ≡ true → d + in_flight_of marks ≤ page_slots }
 {
-    if PAGE_SLOTS < d {
-        return false;
-    }
-    all_below(marks, PAGE_SLOTS - d)
+    d <= PAGE_SLOTS && all_below(marks, PAGE_SLOTS - d)
 }
 
-// Whether a distance d is more than the ring has room for beside the requests in flight. How many pages it has is looked at only where one is too few.
+// Whether a distance d is more than the ring has room for beside the requests in flight. How many pages it has is
+// looked at only where one is too few.
 pub fn overruns(pages: Pages, marks: u64, d: u32) -> bool
     requires { d ≡ 0 → ⊥ }
     ensures { (abi : Abi) → result ≡ ltb (ring_for abi pages).size (d + in_flight_of marks) }

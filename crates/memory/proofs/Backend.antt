@@ -36,6 +36,9 @@ pub backend-tag-at : (m : List ℕ) (k t : ℕ) → k < ports → t < tags → (
 unfolding backend_of
 backend-tag-at m k t h l = rw (lt-ltb k ports h, lt-ltb t tags l)
 
+-- both, where a function reads
+pub ruleset records = (backend-port-at, backend-tag-at)
+
 pointer-at : (m : List ℕ) → (backend_of m).pointer ≡ pointer_at m
 unfolding backend_of
 pointer-at m = refl

@@ -5,11 +5,10 @@ use mathlib.Core.List.{List, [], ◌∷◌}
 use Prim.Native.Nat.{ℕ, zero, suc, ◌+◌, ◌*◌, ◌%◌, ◌^◌, ◌<◌, ◌≤◌}
 use native.Mathlib.Decide.{ℕ_discrete}
 use native.Mathlib.Nat.{add-zero, add_assoc, mod-eq_of_lt}
-use native.Mathlib.Numerals.{add-one}
 use native.Mathlib.Omega.{arith}
 use lib.Dec.{eqb}
-use lib.ListN.{length, get_or, set, drop, length-set}
-use lib.Seq.{sets, length-sets, drop-cons, drop-length, get_or-set_same, get_or-set_other}
+use lib.ListN.{length, get_or, set, length-set}
+use lib.Seq.{sets, length-sets, get_or-set_same, get_or-set_other}
 use borrow.Author.Tests.{eq-eqb, ne_eqb}
 use Rattle.model.specs.Buffers.{ports}
 use Rattle.model.specs.declared.Abi.{Abi}
@@ -88,16 +87,6 @@ sets-in (a ∷ vs) m from i zero h k e =
     sets-out vs (set m from a) (suc from) i (λ q k' e'. omega arith) ∙ rw (e, add-zero) (get_or-set_same m from a 0 (omega arith))
 sets-in (a ∷ vs) m from i (suc q) h k e =
     sets-in vs (set m from a) (suc from) i q (rw length-set (omega arith)) (omega arith) (omega arith)
-
--- a run put word by word: what is left to put, after i words, and one further
-pub run_more : (m w : List ℕ) (from i : ℕ) → i < length w
-    → sets (set m (from + i) (get_or w i 0)) (from + (i + 1)) (drop (i + 1) w) ≡ sets m (from + i) (drop i w)
-run_more m w from i h =
-    let e : from + (i + 1) ≡ suc (from + i) = omega arith in
-    rw (e, add-one, drop-cons w i 0 h)
-
-pub run-done : (m w : List ℕ) (from i : ℕ) → i ≡ length w → sets m (from + i) (drop i w) ≡ m
-run-done m w from i e = rw (e, drop-length)
 
 -- ---- a port
 

@@ -4,4 +4,3 @@ pub mod Kept
 pub mod Encoded
 pub mod Zeros
 pub mod Changes
-pub mod States

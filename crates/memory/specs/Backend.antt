@@ -1,4 +1,5 @@
--- Backend memory as the abstract backend, and the abstract backend as memory. Reading is total: every content of the words is some backend (rule 14.3).
+-- Backend memory as the abstract backend, and the abstract backend as memory. Reading is total: every content of the
+-- words is some backend (rule 14.3).
 use Rattle.std.specs.Prelude.{◌≡◌, false, cond, ◌&&◌, List, [], ◌∷◌, ◌++◌, ℕ, zero, suc, ◌+◌, ◌<◌, ltb}
 use Rattle.model.specs.Buffers.{ports}
 use Rattle.model.specs.Port.{closed_port, zero_tag, is_busy}
@@ -33,7 +34,8 @@ memory_of b = row_of ports (port_block b) ++ b.pointer ∷ []
 abbrev pub Exact : List ℕ → Type 0
 Exact m = m ≡ memory_of (backend_of m)
 
--- A change of memory: the words say this backend now; and where they were exact, each of them is the one that the backend is written as (rule 14.11).
+-- A change of memory: the words say this backend now; and where they were exact, each of them is the one that the
+-- backend is written as (rule 14.11).
 pub record Becomes (before : List ℕ) (b : Backend) (left : List ℕ) : Type 0 where
   pub backend : backend_of left ≡ b
   pub words : Exact before → left ≡ memory_of b

@@ -1,9 +1,11 @@
--- Where the words of backend memory stand (rule 14.1): one field to a word, port after port, each port's own words before its tags', the pointer last.
+-- Where the words of backend memory stand (rule 14.1): one field to a word, port after port, each port's own words
+-- before its tags', the pointer last.
 use Rattle.std.specs.Prelude.{ℕ, ◌+◌, ◌*◌}
 use Rattle.model.specs.Buffers.{ports}
 use Rattle.model.specs.Port.{busy_bits}
 
--- the words of a port beside its tags, of a tag, and the places for tags, one to each mark, whatever the port's ring (rules 4.7 and 14.1)
+-- the words of a port beside its tags, of a tag, and the places for tags, one to each mark, whatever the port's ring
+-- (rules 4.7 and 14.1)
 abbrev pub port_words : ℕ
 port_words = 13
 

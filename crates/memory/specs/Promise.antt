@@ -1,5 +1,7 @@
--- What every call promises, one definition for all (rules 11.1 and 11.2; of a list of completions, whose answer is in two parts, crates/lists has the same field by field): its effect is the one due on what the backend shows of itself, the backend after it
--- is what the event makes of it, every word of memory too; and a call that does nothing leaves the memory as it was, whatever it held.
+-- What every call promises, one definition for all (rules 11.1 and 11.2; of a list of completions, whose answer is in
+-- two parts, crates/lists has the same field by field): its effect is the one due on what the backend shows of itself,
+-- the backend after it is what the event makes of it, every word of memory too; and a call that does nothing leaves the
+-- memory as it was, whatever it held.
 use Rattle.std.specs.Prelude.{◌≡◌, List, [], ℕ}
 use Rattle.model.specs.Backend.{view_of, after_call}
 use Rattle.model.specs.Calls.{Call, Effect}

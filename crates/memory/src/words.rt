@@ -1,44 +1,25 @@
-// The words of backend memory, singly.
-ghost use Rattle.std.specs.Prelude.{◌≡◌, ◌<◌, length};
-ghost use Rattle.model.specs.Buffers.{ports};
-ghost use Rattle.memory.specs.Layout.{stride, memory_words};
-ghost use Rattle.memory.specs.Words.{word as word_at, set_word, narrow32};
+// The words of backend memory, singly, each as the field that it holds.
+ghost use Rattle.std.specs.Prelude.{◌≡◌, ◌<◌};
+ghost use Rattle.memory.specs.Layout.{stride};
+ghost use Rattle.memory.specs.Words.{word as word_at, set_word};
 
+use crate::fields::Field;
 use crate::{STRIDE, WORDS};
+use model::PortIndex;
 
-// The values of a field of 32 bits: its word is taken modulo that.
-const VALUES_32: u64 = 4294967296;
-
-fn seen(m: &[u64]) {}
-
-// No work: what it ensures is how a caller learns how many words there are.
-pub fn known(m: &[u64; WORDS])
-    ensures { length m.now ≡ memory_words }
-{
-    seen(m);
-}
-
-// Word q of port k.
+// The field in word q of port k.
 #[tactic(auto, unfolding(crate::specs::Words::word))]
-pub fn word(m: &[u64; WORDS], k: usize, q: usize) -> u64
-    requires { (k < ports) × (q < stride) }
-    ensures { result ≡ word_at m.now k q }
+pub fn field_at<F: Field>(m: &[u64; WORDS], k: PortIndex, q: usize) -> F
+    requires { q < stride }
+    ensures { result ≡ F.of (word_at m.now k.index q) }
 {
-    m[STRIDE * k + q]
+    F::of_word(m[STRIDE * k.get() + q])
 }
 
 #[tactic(auto, unfolding(crate::specs::Words::set_word))]
-pub fn put_word(m: &mut [u64; WORDS], k: usize, q: usize, v: u64)
-    requires { (k < ports) × (q < stride) }
-    ensures { m.new ≡ set_word m.old k q v }
+pub fn put_field<F: Field>(m: &mut [u64; WORDS], k: PortIndex, q: usize, v: F)
+    requires { q < stride }
+    ensures { m.new ≡ set_word m.old k.index q (F.word v) }
 {
-    m[STRIDE * k + q] = v;
-}
-
-// A word as a number of 32 bits.
-pub fn narrow(m: &[u64; WORDS], k: usize, q: usize) -> u32
-    requires { (k < ports) × (q < stride) }
-    ensures { result ≡ narrow32 (word_at m.now k q) }
-{
-    (word(m, k, q) % VALUES_32) as u32
+    m[STRIDE * k.get() + q] = v.word();
 }

@@ -8,10 +8,11 @@ use Prim.Native.Nat.{ℕ, suc, min}
 use native.Mathlib.Omega.{arith}
 use lib.Dec.{eqb, ltb}
 use lib.ListN.{length}
+use Rattle.std.specs.Prelude.{Result, Ok, Err, Some}
 use Rattle.model.specs.Buffers.{are_rings}
 use Rattle.model.specs.Ring.{status_bits}
 use Rattle.model.specs.Port.{is_closed, View}
-use Rattle.model.specs.Calls.{Call, Open, Close, Turn, Complete, CompleteAnswer, none_done, all_done, CompleteEffect, Effect, Event, most_completions}
+use Rattle.model.specs.Calls.{Reply, Call, Open, Close, Turn, Complete, CompleteAnswer, none_done, all_done, CompleteEffect, Effect, Event, most_completions}
 use Rattle.model.specs.Turn.{ring_at}
 use Rattle.model.specs.Complete.{Completion, completions_in, are_entries, completed}
 use Rattle.model.specs.Rules.{no_port, any_names_none, named_twice, refused_completion, due_complete, effect_due, due}
@@ -24,7 +25,7 @@ use Rattle.model.specs.Counts.{Act, ended, zeroed, events_in, taken_among, given
 use Rattle.model.specs.declared.Counter.{Counter}
 use Rattle.model.specs.declared.Counters.{Counters}
 use Rattle.model.specs.declared.PortId.{PortId}
-use Rattle.model.specs.declared.Reply.{Reply}
+use Rattle.model.specs.declared.Refusal.{Refusal}
 use Rattle.model.specs.declared.Status.{Status}
 use Rattle.model.specs.declared.Turned.{Turned}
 use Rattle.model.proofs.Base.{by_cond, clash}
@@ -39,7 +40,7 @@ more-said : (n c : ℕ) → n ≡ min most c → one_more_of n ≡ min most (suc
 unfolding one_more_of
 more-said n c e = omega (arith, e)
 
-take-one : (t : ℕ) (l : List Response) (c : Counters) → Counts t l c → Counts (suc t) l (raised_by Counter.Taken c)
+take-one : (t : ℕ) (l : List Response) (c : Counters) → Counts t l c → Counts (suc t) l (raised_by (Some Counter.Taken) c)
 take-one t l c h = record {
   taken_said = more-said c.taken t h.taken_said;
   okay_said = h.okay_said;
@@ -48,7 +49,7 @@ take-one t l c h = record {
 }
 
 -- a response counts for the status that it shows, and for no other
-give-one : (z : Status) (t : ℕ) (l : List Response) (a : Response) (c : Counters) → a.status ≡ status_bits z → Counts t l c → Counts t (a ∷ l) (raised_by (status_counter z) c)
+give-one : (z : Status) (t : ℕ) (l : List Response) (a : Response) (c : Counters) → a.status ≡ status_bits z → Counts t l c → Counts t (a ∷ l) (raised_by (Some (status_counter z)) c)
 unfolding count
 give-one Status.Okay t l a c e h = record {
   taken_said = h.taken_said;
@@ -82,14 +83,14 @@ module _ (t : ℕ) (l : List Response) (c : Counters) (h : Counts t l c) where
   quiet false false true = h
   quiet false false false = h
 
-  took : (b : Bool) → Counts (cond b (suc t) t) (cond b l l) (cond b (raised_by Counter.Taken c) c)
+  took : (b : Bool) → Counts (cond b (suc t) t) (cond b l l) (cond b (raised_by (Some Counter.Taken) c) c)
   took true = take-one t l c h
   took false = h
 
   module _ (z : Status) (a : Response) where
     answered : (b : Bool) → (b ≡ true → a.status ≡ status_bits z)
-        → Counts (cond b (suc t) t) (cond b (a ∷ l) l) (cond b (raised_by (status_counter z) (raised_by Counter.Taken c)) c)
-    answered true e = give-one z (suc t) l a (raised_by Counter.Taken c) (e refl) (take-one t l c h)
+        → Counts (cond b (suc t) t) (cond b (a ∷ l) l) (cond b (raised_by (Some (status_counter z)) (raised_by (Some Counter.Taken) c)) c)
+    answered true e = give-one z (suc t) l a (raised_by (Some Counter.Taken) c) (e refl) (take-one t l c h)
     answered false e = h
 
 -- a completion that is done names the port that the call named, and has a status for each entry
@@ -162,7 +163,7 @@ told-since k j left (c ∷ cs) (z ∷ zs) b s =
 -- the port's own raise the number of each status
 finishings-own : (k j : ℕ) (left : List ℕ) (cs : List Completion) (zs : List Status) (b : Book) (t : ℕ) (l : List Response) (c : Counters) → eqb k j ≡ true
     → length zs ≡ length cs → All AsTold (posts k (finishings left j cs zs) b).answered → Counts t l c
-    → Counts (taken_among k (finishings left j cs zs) t) (given_among k (finishings left j cs zs) b l) (raised_by_all (map status_counter zs) c)
+    → Counts (taken_among k (finishings left j cs zs) t) (given_among k (finishings left j cs zs) b l) (raised_by_all (map (λ y. Some (status_counter y)) zs) c)
 unfolding said
 finishings-own k j left [] [] b t l c e n s h = h
 finishings-own k j left [] (z ∷ zs) b t l c e n s h = absurd (omega arith)
@@ -174,9 +175,9 @@ finishings-own k j left (d ∷ cs) (z ∷ zs) b t l c e n s h =
     let later : All AsTold (posts k ds next).answered = subst (λ (x : Bool). All AsTold (posts k ds (cond x next b)).answered) e s in
     let told : AsTold a = (told-since k j left cs zs next later).0 in
     subst
-    (λ (x : Bool). Counts (taken_among k ds (cond x t t)) (given_among k ds (cond x next b) (cond x (a ∷ l) l)) (raised_by_all (map status_counter zs) (raised_by (status_counter z) c)))
+    (λ (x : Bool). Counts (taken_among k ds (cond x t t)) (given_among k ds (cond x next b) (cond x (a ∷ l) l)) (raised_by_all (map (λ y. Some (status_counter y)) zs) (raised_by (Some (status_counter z)) c)))
     (sym e)
-    (finishings-own k j left cs zs next t (a ∷ l) (raised_by (status_counter z) c) e (omega arith) later (give-one z t l a c told h))
+    (finishings-own k j left cs zs next t (a ∷ l) (raised_by (Some (status_counter z)) c) e (omega arith) later (give-one z t l a c told h))
 
 -- ---- one call more
 
@@ -189,25 +190,25 @@ module _ (k : ℕ) (h : List Act) (c : Counters) (i : Counted k h c) where
 
   counted-open : (p : PortId) (sheet : List ℕ) (r : Reply) (to : Option ℕ) → After (record { call = Open p sheet; effect = r }) to
   unfolding taken_since given_since
-  counted-open p sheet (Reply.Refused n) to = quiet _ _ c i true true (went k to)
-  counted-open p sheet Reply.Done to = quiet _ _ c i (eqb k p.0) (eqb k p.0) (went k to)
+  counted-open p sheet (Err why) to = quiet _ _ c i true true (went k to)
+  counted-open p sheet (Ok done) to = quiet _ _ c i (eqb k p.0) (eqb k p.0) (went k to)
 
   counted-close : (p : PortId) (r : Reply) (to : Option ℕ) → After (record { call = Close p; effect = r }) to
   unfolding taken_since given_since
-  counted-close p (Reply.Refused n) to = quiet _ _ c i true true (went k to)
-  counted-close p Reply.Done to = quiet _ _ c i (eqb k p.0) (eqb k p.0) (went k to)
+  counted-close p (Err why) to = quiet _ _ c i true true (went k to)
+  counted-close p (Ok done) to = quiet _ _ c i (eqb k p.0) (eqb k p.0) (went k to)
 
-  counted-turn : (rings grants words pages left : List ℕ) (r : Turned) (to : Option ℕ)
+  counted-turn : (rings grants words pages left : List ℕ) (r : Result Turned Refusal) (to : Option ℕ)
       → let e : Event = record { call = Turn rings grants words; effect = record { rings = pages; words = left; answer = r } } in
       AllTold e → WellHanded k e to → After e to
   unfolding taken_since given_since book said
-  counted-turn rings grants words pages left (Turned.Refused n) to s w = quiet _ _ c i true true (went k to)
-  counted-turn rings grants words pages left Turned.Idle to s w = quiet _ _ c i true true (went k to)
-  counted-turn rings grants words pages left (Turned.Overrun p) to s w = quiet _ _ c i (eqb k p.0) (eqb k p.0) (went k to)
-  counted-turn rings grants words pages left (Turned.Started p t n plan) to s w = rw (w p.0 refl) (took _ _ c i (eqb k p.0))
-  counted-turn rings grants words pages left (Turned.Answered p n z y) to s w =
+  counted-turn rings grants words pages left (Err why) to s w = quiet _ _ c i true true (went k to)
+  counted-turn rings grants words pages left (Ok Turned.Idle) to s w = quiet _ _ c i true true (went k to)
+  counted-turn rings grants words pages left (Ok (Turned.Overrun p)) to s w = quiet _ _ c i (eqb k p.0) (eqb k p.0) (went k to)
+  counted-turn rings grants words pages left (Ok (Turned.Started p t n plan)) to s w = rw (w p.0 refl) (took _ _ c i (eqb k p.0))
+  counted-turn rings grants words pages left (Ok (Turned.Answered p f y)) to s w =
       let b = book k (events_in h) in
-      rw (w p.0 refl) (answered _ _ c i z _ (eqb k p.0) (newest (eqb k p.0) (entry (answering p.0 rings pages z) b) b _ _ refl s))
+      rw (w p.0 refl) (answered _ _ c i f.status _ (eqb k p.0) (newest (eqb k p.0) (entry (answering p.0 rings pages f.status) b) b _ _ refl s))
 
   counted-complete : (rings : List ℕ) (p : PortId) (entries pages : List ℕ) (r : CompleteAnswer) (to : Option ℕ)
       → let e : Event = record { call = Complete rings p entries; effect = record { rings = pages; answer = r } } in
@@ -226,7 +227,7 @@ module _ (k : ℕ) (h : List Act) (c : Counters) (i : Counted k h c) where
 
       go : (d : Bool) → eqb k p.0 ≡ d
           → Counts (taken_among k (finishings pages p.0 cs zs) (taken_since k h)) (given_among k (finishings pages p.0 cs zs) b (given_since k h))
-          (cond d (raised_by_all (map status_counter zs) c) c)
+          (cond d (raised_by_all (map (λ y. Some (status_counter y)) zs) c) c)
       go true e = finishings-own k p.0 pages cs zs b _ _ c e q.1 s i
       go false e = let o = finishings-other k p.0 pages cs zs b (taken_since k h) (given_since k h) e in rw (o.0, o.1) i
 

@@ -2,26 +2,27 @@
 use mathlib.Core.Path.{◌≡◌, refl, sym, ap, subst}
 use mathlib.Core.Bool.{true, false, not, ◌&&◌, ◌||◌}
 use mathlib.Core.List.{List, map}
+use Rattle.std.specs.Prelude.{Result, Ok, Err}
 use Prim.Native.Nat.{ℕ, ◌-◌, ◌<◌, ◌≤◌}
 use native.Mathlib.Omega.{arith}
 use lib.Dec.{eqb, ltb, leb}
 use lib.ListN.{length}
 use borrow.Author.Tests.{ltb-true, ltb-false, leb-true, leb-false, eqb-true, eqb-false, not-false}
 use Rattle.model.specs.Buffers.{ports, rings_length, are_rings, are_grants}
-use Rattle.model.specs.NodeSheet.{sheet_of}
+use Rattle.model.specs.NodeSheet.{Sheet, sheet_of}
 use Rattle.model.specs.Port.{is_closed, is_open, View, lowest_free, pending_of, is_work}
-use Rattle.model.specs.Calls.{Call, Open, Close, Turn, Complete, TurnEffect, CompleteAnswer, none_done, all_done, CompleteEffect, Effect, Event, most_completions}
+use Rattle.model.specs.Calls.{Reply, Call, Open, Close, Turn, Complete, TurnEffect, CompleteAnswer, none_done, all_done, CompleteEffect, Effect, Event, most_completions}
 use Rattle.model.specs.Turn.{ring_at, pending_at, has_work, looked_at, passed_over, idle, responded_all_at, request_at, settled, overran, served_by, turned}
 use Rattle.model.specs.Complete.{Completion, completions_in, are_entries, responses_for, completed}
 use Rattle.model.specs.Rules.{no_port, opened_by, due_open, due_close, due_turn, any_names_none, named_twice, refused_completion, due_complete, effect_due, due}
 use Rattle.model.specs.Deeds.{Round, no_turn, unserved, served, turn_round, round, round_of}
+use Rattle.model.specs.Plan.{Verdict}
+use Rattle.model.specs.declared.Fault.{Fault}
 use Rattle.model.specs.declared.Pending.{Pending}
 use Rattle.model.specs.declared.PortId.{PortId}
-use Rattle.model.specs.declared.Reply.{Reply}
-use Rattle.model.specs.declared.Sheet.{Sheet}
+use Rattle.model.specs.declared.Refusal.{Refusal}
 use Rattle.model.specs.declared.Status.{Status}
 use Rattle.model.specs.declared.Turned.{Turned}
-use Rattle.model.specs.declared.Verdict.{Verdict}
 use Rattle.model.proofs.Base.{by_cond, clash, and_left, and_right, or_left, or_right, least-is, least-before}
 
 -- ---- the facts
@@ -47,9 +48,9 @@ pub record Started (v : View) (rings : List ℕ) (k t s : ℕ) : Type 0 where
   pub serial : s ≡ v.consumed k
 
 -- a request of port k was answered at once
-pub record AnsweredNow (v : View) (rings left : List ℕ) (k n : ℕ) (z : Status) : Type 0 where
+pub record AnsweredNow (v : View) (rings left : List ℕ) (k : ℕ) (f : Fault) : Type 0 where
   pub choice : Chosen v rings k
-  pub written : left ≡ (settled v rings k (request_at v rings k) (Verdict.Refused n z)).rings
+  pub written : left ≡ (settled v rings k (request_at v rings k) (Err f)).rings
 
 -- the requests of port k that these entries name were completed, with these statuses
 pub record Finished (v : View) (rings left : List ℕ) (k : ℕ) (cs : List Completion) (zs : List Status) : Type 0 where
@@ -63,22 +64,22 @@ pub record Finished (v : View) (rings left : List ℕ) (k : ℕ) (cs : List Comp
   pub statuses : zs ≡ map (λ x. x.status) (responses_for (v.tag k) cs)
 
 abbrev pub OpenFacts : View → PortId → Reply → Type 0
-OpenFacts v p (Reply.Refused n) = Unit
-OpenFacts v p Reply.Done = (p.0 < ports) × (is_closed (v.state p.0) ≡ true)
+OpenFacts v p (Err why) = Unit
+OpenFacts v p (Ok done) = (p.0 < ports) × (is_closed (v.state p.0) ≡ true)
 
 abbrev pub CloseFacts : View → PortId → Reply → Type 0
-CloseFacts v p (Reply.Refused n) = Unit
-CloseFacts v p Reply.Done = (p.0 < ports) × (is_closed (v.state p.0) ≡ false) × (v.in_flight p.0 ≡ 0)
+CloseFacts v p (Err why) = Unit
+CloseFacts v p (Ok done) = (p.0 < ports) × (is_closed (v.state p.0) ≡ false) × (v.in_flight p.0 ≡ 0)
 
-abbrev pub TurnFacts : View → List ℕ → List ℕ → Turned → Type 0
-TurnFacts v rings left (Turned.Refused n) = Unit
-TurnFacts v rings left Turned.Idle = (i : ℕ) → i < ports → has_work v rings (looked_at v i) ≡ false
-TurnFacts v rings left (Turned.Overrun p) = Chosen v rings p.0
-TurnFacts v rings left (Turned.Started p t s plan) = Started v rings p.0 t.0 s.0
-TurnFacts v rings left (Turned.Answered p n z y) = AnsweredNow v rings left p.0 n z
+abbrev pub TurnFacts : View → List ℕ → List ℕ → Result Turned Refusal → Type 0
+TurnFacts v rings left (Err why) = Unit
+TurnFacts v rings left (Ok Turned.Idle) = (i : ℕ) → i < ports → has_work v rings (looked_at v i) ≡ false
+TurnFacts v rings left (Ok (Turned.Overrun p)) = Chosen v rings p.0
+TurnFacts v rings left (Ok (Turned.Started p t s plan)) = Started v rings p.0 t.0 s.0
+TurnFacts v rings left (Ok (Turned.Answered p f y)) = AnsweredNow v rings left p.0 f
 
 abbrev pub CompleteFacts : View → List ℕ → List ℕ → PortId → List Completion → CompleteAnswer → Type 0
-CompleteFacts v rings left p cs (none_done n) = Unit
+CompleteFacts v rings left p cs (none_done e) = Unit
 CompleteFacts v rings left p cs (all_done q zs y) = Finished v rings left p.0 cs zs
 
 abbrev pub Facts : View → (c : Call) → Effect c → Type 0
@@ -109,8 +110,8 @@ waits-room size n d =
 
 opened-facts : (v : View) (p : PortId) (x : Sheet) → p.0 < ports → is_closed (v.state p.0) ≡ true → OpenFacts v p (opened_by x)
 unfolding opened_by
-opened-facts v p (Sheet.Read q) l e = (l, e)
-opened-facts v p (Sheet.Refused n) l e = tt
+opened-facts v p (Ok q) l e = (l, e)
+opened-facts v p (Err why) l e = tt
 
 open-facts : (v : View) (p : PortId) (sheet : List ℕ) → OpenFacts v p (due_open v p sheet)
 unfolding due_open
@@ -135,8 +136,8 @@ TF v rings e = TurnFacts v rings e.rings e.answer
 settled-facts : (v : View) (rings : List ℕ) (k : ℕ) → Chosen v rings k → pending_at v rings k ≡ Pending.Waits → (x : Verdict)
     → TF v rings (settled v rings k (request_at v rings k) x)
 unfolding settled
-settled-facts v rings k c w (Verdict.Refused n z) = record { choice = c; written = refl }
-settled-facts v rings k c w (Verdict.Start plan) = record { choice = c; waits = w; lowest = refl; serial = refl }
+settled-facts v rings k c w (Err f) = record { choice = c; written = refl }
+settled-facts v rings k c w (Ok plan) = record { choice = c; waits = w; lowest = refl; serial = refl }
 
 served-facts : (v : View) (rings grants : List ℕ) (k : ℕ) → Chosen v rings k → (d : Pending) → pending_at v rings k ≡ d → TF v rings (served_by v rings grants k d)
 unfolding served_by overran has_work
@@ -214,12 +215,12 @@ RoundFacts v no_turn = Unit
 RoundFacts v (unserved rings) = (i : ℕ) → i < ports → has_work v rings (looked_at v i) ≡ false
 RoundFacts v (served rings k) = Chosen v rings k
 
-turn-round : (v : View) (rings left : List ℕ) (x : Turned) → TurnFacts v rings left x → RoundFacts v (turn_round rings x)
-turn-round v rings left (Turned.Refused n) f = tt
-turn-round v rings left Turned.Idle f = f
-turn-round v rings left (Turned.Overrun p) f = f
-turn-round v rings left (Turned.Started p t s plan) f = f.choice
-turn-round v rings left (Turned.Answered p n z y) f = f.choice
+turn-round : (v : View) (rings left : List ℕ) (x : Result Turned Refusal) → TurnFacts v rings left x → RoundFacts v (turn_round rings x)
+turn-round v rings left (Err why) f = tt
+turn-round v rings left (Ok Turned.Idle) f = f
+turn-round v rings left (Ok (Turned.Overrun p)) f = f
+turn-round v rings left (Ok (Turned.Started p t s plan)) f = f.choice
+turn-round v rings left (Ok (Turned.Answered p a y)) f = f.choice
 
 round-of : (v : View) (c : Call) (e : Effect c) → Facts v c e → RoundFacts v (round c e)
 round-of v (Open p sheet) e f = tt

@@ -8,20 +8,22 @@ use native.Mathlib.Decide.{ℕ_discrete}
 use native.Mathlib.Nat.{le_refl}
 use native.Mathlib.Omega.{arith}
 use lib.ListN.{length, length-map}
+use Rattle.std.specs.Prelude.{Result, Ok, Err}
 use Rattle.model.specs.Base.{least, tally, modulus}
 use Rattle.model.specs.Buffers.{ports, rings_length, pages_of, set_pages}
 use Rattle.model.specs.Ring.{Ring}
 use Rattle.model.specs.Port.{is_closed, is_open, Holder, free, held, is_free, lowest_free}
-use Rattle.model.specs.Calls.{Call, Open, Close, Turn, Complete, CompleteAnswer, none_done, all_done, Effect, Event}
+use Rattle.model.specs.Calls.{Reply, Call, Open, Close, Turn, Complete, CompleteAnswer, none_done, all_done, Effect, Event}
 use Rattle.model.specs.Turn.{ring_at, pending_at, has_work, ResponseDue, due_to, responded_all, responded_all_at, responded_at, request_at, settled}
 use Rattle.model.specs.Complete.{Completion, completions_in, response_for, responses_for}
 use Rattle.model.specs.Rules.{any_names_none}
 use Rattle.model.specs.Deeds.{open_deeds, close_deeds, turn_deeds, finishings, complete_deeds, deeds, deeds_of}
 use Rattle.model.specs.History.{ring_in, asked, said, book, unfinished, holder, view_at}
 use Rattle.model.specs.Demand.{All, AsDue, IsBytes, LendsBytes}
+use Rattle.model.specs.declared.Fault.{Fault}
 use Rattle.model.specs.declared.Pair.{Pair}
 use Rattle.model.specs.declared.PortId.{PortId}
-use Rattle.model.specs.declared.Reply.{Reply}
+use Rattle.model.specs.declared.Refusal.{Refusal}
 use Rattle.model.specs.declared.State.{State}
 use Rattle.model.specs.declared.Status.{Status}
 use Rattle.model.specs.declared.Turned.{Turned}
@@ -134,15 +136,15 @@ module _ (k : ℕ) (h : List Event) (o : Sound (book k h)) where
       let got = start-free rings t s opened f in
       record { opened = opened; small = got.0; unheld = got.1; narrow = asked-fits rings y }
 
-  may-answer : (rings left : List ℕ) (n : ℕ) (z : Status) → IsBytes rings → AnsweredNow (view_at h) rings left k n z → MayAnswer k rings left z (book k h)
+  may-answer : (rings left : List ℕ) (a : Fault) → IsBytes rings → AnsweredNow (view_at h) rings left k a → MayAnswer k rings left a.status (book k h)
   unfolding settled
-  may-answer rings left n z y f =
+  may-answer rings left a y f =
       let opened = chosen-open rings f.choice in
       let q = request-asked rings opened in
       record {
         opened = opened;
         narrow = asked-fits rings y;
-        reads = reads-response rings left _ z opened f.choice.sized (chosen-lt f.choice) (asked-fits rings y) (f.written ∙ ap (λ (p : Pair). responded_at (view_at h) rings k p z) q);
+        reads = reads-response rings left _ a.status opened f.choice.sized (chosen-lt f.choice) (asked-fits rings y) (f.written ∙ ap (λ (p : Pair). responded_at (view_at h) rings k p a.status) q);
       }
 
   may-finish : (rings left : List ℕ) (cs : List Completion) (zs : List Status) → Finished (view_at h) rings left k cs zs → MayAll k (finishings left k cs zs) (book k h)
@@ -166,32 +168,32 @@ module _ (k : ℕ) (h : List Event) (o : Sound (book k h)) where
   -- ---- the calls
 
   may-open : (p : PortId) (sheet : List ℕ) (e : Reply) → OpenFacts (view_at h) p e → MayAll k (open_deeds p.0 sheet e) (book k h)
-  may-open p sheet (Reply.Refused n) f = tt
-  may-open p sheet Reply.Done f =
+  may-open p sheet (Err why) f = tt
+  may-open p sheet (Ok done) f =
       (f.0, λ q. subst (λ (j : ℕ). is_closed (book j h).state ≡ true) (sym q) (rw view-state at f.1), tt)
 
   may-close : (p : PortId) (e : Reply) → CloseFacts (view_at h) p e → MayAll k (close_deeds p.0 e) (book k h)
-  may-close p (Reply.Refused n) f = tt
-  may-close p Reply.Done f = (f.0, λ q. go (subst (λ (j : ℕ). (is_closed ((view_at h).state j) ≡ false) × ((view_at h).in_flight j ≡ 0)) (sym q) (f.1, f.2)), tt)
+  may-close p (Err why) f = tt
+  may-close p (Ok done) f = (f.0, λ q. go (subst (λ (j : ℕ). (is_closed ((view_at h).state j) ≡ false) × ((view_at h).in_flight j ≡ 0)) (sym q) (f.1, f.2)), tt)
     where
       go : (is_closed ((view_at h).state k) ≡ false) × ((view_at h).in_flight k ≡ 0) → MayClose (book k h)
       go g =
           let opened : is_closed (book k h).state ≡ false = rw view-state at g.0 in
           record { opened = opened; idle = sym (view-in_flight k h opened) ∙ g.1 }
 
-  may-turn : (rings left : List ℕ) (e : Turned) → IsBytes rings → TurnFacts (view_at h) rings left e → MayAll k (turn_deeds rings left e) (book k h)
-  may-turn rings left (Turned.Refused n) y f = tt
-  may-turn rings left Turned.Idle y f = tt
-  may-turn rings left (Turned.Overrun p) y f =
+  may-turn : (rings left : List ℕ) (e : Result Turned Refusal) → IsBytes rings → TurnFacts (view_at h) rings left e → MayAll k (turn_deeds rings left e) (book k h)
+  may-turn rings left (Err why) y f = tt
+  may-turn rings left (Ok Turned.Idle) y f = tt
+  may-turn rings left (Ok (Turned.Overrun p)) y f =
       (chosen-lt f, λ q. chosen-open rings (subst (λ (j : ℕ). Chosen (view_at h) rings j) (sym q) f), tt)
-  may-turn rings left (Turned.Started p t s plan) y f = (
+  may-turn rings left (Ok (Turned.Started p t s plan)) y f = (
     chosen-lt f.choice,
     λ q. subst (λ (j : ℕ). MayStart j rings t.0 (book k h)) q (may-start rings t.0 s.0 y (subst (λ (j : ℕ). Started (view_at h) rings j t.0 s.0) (sym q) f)),
     tt,
   )
-  may-turn rings left (Turned.Answered p n z x) y f = (
+  may-turn rings left (Ok (Turned.Answered p a x)) y f = (
     chosen-lt f.choice,
-    λ q. subst (λ (j : ℕ). MayAnswer j rings left z (book k h)) q (may-answer rings left n z y (subst (λ (j : ℕ). AnsweredNow (view_at h) rings left j n z) (sym q) f)),
+    λ q. subst (λ (j : ℕ). MayAnswer j rings left a.status (book k h)) q (may-answer rings left a y (subst (λ (j : ℕ). AnsweredNow (view_at h) rings left j a) (sym q) f)),
     tt,
   )
 

@@ -4,15 +4,16 @@ use mathlib.Core.Bool.{Bool, true, false}
 use mathlib.Core.List.{List, [], ◌∷◌, ◌++◌, map}
 use Prim.Native.Nat.{ℕ, ◌%◌, ◌/◌}
 use lib.ListN.{length, replicate}
+use Rattle.std.specs.Prelude.{Ok, Err}
 use Rattle.wire.specs.LittleEndian.{load}
 use Rattle.wire.specs.Part.{part}
 use Rattle.model.specs.Base.{all, same}
-use Rattle.model.specs.NodeSheet.{Entry, entry_at, body_length, entries_from, entries_of, bodies_end, well_formed, rising, is_digit, digits_from, capped, digits_of, number_of, choice_body, number_body, is_sector_size, is_allowed, body_of, after_body, after_bodies, value_of, absent, values_of, present, params_of, has_required, sheet_of}
+use Rattle.model.specs.NodeSheet.{Sheet, Entry, entry_at, body_length, entries_from, entries_of, bodies_end, well_formed, rising, is_digit, digits_from, capped, digits_of, number_of, choice_body, number_body, is_sector_size, is_allowed, body_of, after_body, after_bodies, value_of, absent, values_of, present, params_of, has_required, sheet_of}
+use Rattle.model.specs.Numbers.{refusal_number}
 use Rattle.model.specs.declared.Abi.{Abi}
 use Rattle.model.specs.declared.Pages.{Pages}
 use Rattle.model.specs.declared.Params.{Params}
 use Rattle.model.specs.declared.SectorSize.{SectorSize}
-use Rattle.model.specs.declared.Sheet.{Sheet}
 
 -- ---- how a sheet is laid out
 
@@ -139,25 +140,30 @@ one n barrier flush discard secure = record { by = n; params = offering barrier 
 ones : List One
 ones = one 2 true false false false ∷ one 3 false true false false ∷ one 4 false false true false ∷ one 5 false false false true ∷ []
 
+-- the number that a sheet is refused with, 0 where it is not
+abbrev opened_number : Sheet → ℕ
+opened_number (Ok p) = 0
+opened_number (Err e) = refusal_number e
+
 record Computed : Type 0 where
-  refusals : map (λ (j : Judged). sheet_of j.sheet) refused ≡ map (λ (j : Judged). Sheet.Refused j.number) refused
+  refusals : map (λ (j : Judged). opened_number (sheet_of j.sheet)) refused ≡ map (λ (j : Judged). j.number) refused
   -- the worked sheet (rule 3.12)
   whole :
       sheet_of (0x03 ∷ 0x01 ∷ 0x00 ∷ 0x01 ∷ 0x00 ∷ 0x06 ∷ 0x00 ∷ 0x03 ∷ 0x00 ∷ 0x07 ∷ 0x00 ∷ 0x04 ∷ 0x00 ∷ 0x77 ∷ 0x35 ∷ 0x31 ∷ 0x32 ∷ 0x32 ∷ 0x30 ∷ 0x30 ∷ 0x38 ∷ [])
-      ≡ Sheet.Read (disk Abi.Bits64 Pages.One 2008)
+      ≡ Ok (disk Abi.Bits64 Pages.One 2008)
   -- a disk without sectors is one (rule 3.5)
-  no_sectors : sheet_of (laid (writable ∷ size512 ∷ node 7 (48 ∷ []) ∷ [])) ≡ Sheet.Read (disk Abi.Bits64 Pages.One 0)
+  no_sectors : sheet_of (laid (writable ∷ size512 ∷ node 7 (48 ∷ []) ∷ [])) ≡ Ok (disk Abi.Bits64 Pages.One 0)
   -- a 32-bit guest's (rule 3.5)
-  narrow : sheet_of (laid (writable ∷ size512 ∷ sectors2008 ∷ bits32 ∷ [])) ≡ Sheet.Read (disk Abi.Bits32 Pages.One 2008)
+  narrow : sheet_of (laid (writable ∷ size512 ∷ sectors2008 ∷ bits32 ∷ [])) ≡ Ok (disk Abi.Bits32 Pages.One 2008)
   -- one with a ring of two pages (rule 3.5), and both
-  two_pages : sheet_of (laid (writable ∷ size512 ∷ sectors2008 ∷ node 9 (49 ∷ []) ∷ [])) ≡ Sheet.Read (disk Abi.Bits64 Pages.Two 2008)
-  narrow_two_pages : sheet_of (laid (writable ∷ size512 ∷ sectors2008 ∷ bits32 ∷ node 9 (49 ∷ []) ∷ [])) ≡ Sheet.Read (disk Abi.Bits32 Pages.Two 2008)
+  two_pages : sheet_of (laid (writable ∷ size512 ∷ sectors2008 ∷ node 9 (49 ∷ []) ∷ [])) ≡ Ok (disk Abi.Bits64 Pages.Two 2008)
+  narrow_two_pages : sheet_of (laid (writable ∷ size512 ∷ sectors2008 ∷ bits32 ∷ node 9 (49 ∷ []) ∷ [])) ≡ Ok (disk Abi.Bits32 Pages.Two 2008)
   -- each feature by its own node (rule 3.5)
-  features : map (λ (o : One). sheet_of (laid (writable ∷ node o.by (49 ∷ []) ∷ size512 ∷ sectors2008 ∷ []))) ones ≡ map (λ (o : One). Sheet.Read o.params) ones
+  features : map (λ (o : One). sheet_of (laid (writable ∷ node o.by (49 ∷ []) ∷ size512 ∷ sectors2008 ∷ []))) ones ≡ map (λ (o : One). Ok o.params) ones
   -- every node, with the largest number of sectors
   every_node :
       sheet_of (laid (writable ∷ node 2 (49 ∷ []) ∷ node 3 (48 ∷ []) ∷ node 4 (49 ∷ []) ∷ node 5 (49 ∷ []) ∷ node 6 (52 ∷ 48 ∷ 57 ∷ 54 ∷ []) ∷ node 7 (49 ∷ 56 ∷ 52 ∷ 52 ∷ 54 ∷ 55 ∷ 52 ∷ 52 ∷ 48 ∷ 55 ∷ 51 ∷ 55 ∷ 48 ∷ 57 ∷ 53 ∷ 53 ∷ 49 ∷ 54 ∷ 49 ∷ 53 ∷ []) ∷ node 8 (120 ∷ 56 ∷ 54 ∷ 95 ∷ 54 ∷ 52 ∷ 45 ∷ 97 ∷ 98 ∷ 105 ∷ []) ∷ node 9 (48 ∷ []) ∷ []))
-      ≡ Sheet.Read (record {
+      ≡ Ok (record {
         writable = true;
         barrier = true;
         flush = false;

@@ -1,10 +1,11 @@
 -- Section 8 of docs/RULES.md: the checks 21 to 29 of a guest's request, with the status of each reason. 23 is withdrawn, and its number is unused (rule 8.23).
-use Rattle.std.specs.Prelude.{ℕ, ◌+◌, ◌-◌, ◌%◌, Bool, not, cond, ◌&&◌, ◌||◌, List, [], ◌∷◌, ◌++◌, eqb, ltb, leb, get_or}
+use Rattle.std.specs.Prelude.{ℕ, ◌+◌, ◌-◌, ◌%◌, Bool, not, cond, ◌&&◌, ◌||◌, List, [], ◌∷◌, ◌++◌, Result, Ok, Err, eqb, ltb, leb, get_or}
 use Rattle.model.specs.Base.{◌⇒◌, first_of, all}
 use Rattle.model.specs.Buffers.{grant_share}
 use Rattle.model.specs.Ring.{Request, read, write, barrier, flush, discard}
-use Rattle.model.specs.declared.Checked.{Checked}
+use Rattle.model.specs.declared.Fault.{Fault}
 use Rattle.model.specs.declared.Params.{Params}
+use Rattle.model.specs.declared.Reason.{Reason}
 use Rattle.model.specs.declared.SectorSize.{SectorSize}
 use Rattle.model.specs.declared.Segment.{Segment}
 use Rattle.model.specs.declared.Status.{Status}
@@ -119,36 +120,36 @@ unaligned p start count ss = not (is_aligned p.sector start && is_aligned p.sect
 
 -- ---- the table of the checks
 
--- a check: the number of its reason, the status that the guest gets, and whether the request fails it (rules 8.21 to 8.29)
+-- a check: its reason, the status that the guest gets, and whether the request fails it (rules 8.21 to 8.29)
 pub record Check : Type 0 where
-  pub reason : ℕ
+  pub reason : Reason
   pub status : Status
   pub fails : Bool
 
-abbrev pub check : ℕ → Status → Bool → Check
-check n s b = record { reason = n; status = s; fails = b }
+abbrev pub check : Reason → Status → Bool → Check
+check reason s b = record { reason = reason; status = s; fails = b }
 
 -- what a request asks for (rules 8.21 to 8.25)
 unfoldable pub operation_checks : Params → Request → List Check
 operation_checks p r =
-    check 21 Status.NotSupported (unknown_operation r)
-    ∷ check 22 Status.NotSupported (feature_off p r)
-    ∷ check 24 Status.Error (read_only p r)
-    ∷ check 25 Status.Error (wrong_amount r)
+    check Reason.UnknownOperation Status.NotSupported (unknown_operation r)
+    ∷ check Reason.FeatureOff Status.NotSupported (feature_off p r)
+    ∷ check Reason.ReadOnly Status.Error (read_only p r)
+    ∷ check Reason.WrongAmount Status.Error (wrong_amount r)
     ∷ []
 
 -- its segments, each check over all of them (rules 8.2, 8.26 and 8.27)
 unfoldable pub segment_checks : List ℕ → Request → List Check
 segment_checks grants r =
-    check 26 Status.Error (wrong_segment r)
-    ∷ check 27 Status.Error (not_granted grants r)
+    check Reason.WrongSegment Status.Error (wrong_segment r)
+    ∷ check Reason.NotGranted Status.Error (not_granted grants r)
     ∷ []
 
 -- where it lies on the disk (rules 8.9, 8.11, 8.28 and 8.29)
 unfoldable pub disk_checks : Params → ℕ → ℕ → List Segment → List Check
 disk_checks p start count ss =
-    check 28 Status.Error (past_end p start count)
-    ∷ check 29 Status.Error (unaligned p start count ss)
+    check Reason.PastEnd Status.Error (past_end p start count)
+    ∷ check Reason.Unaligned Status.Error (unaligned p start count ss)
     ∷ []
 
 -- the eight checks, in number order (rule 8.2); a request that moves nothing has no range (rule 8.7)
@@ -156,7 +157,14 @@ unfoldable pub checks : Params → List ℕ → Request → List Check
 checks p grants r =
     operation_checks p r ++ (segment_checks grants r ++ cond (moves_nothing r) [] (disk_checks p r.start (count_of r) (data_segments r)))
 
+-- what checks say of a request: it passes them, or fails one (rule 8.2)
+abbrev pub Checked : Type 0
+Checked = Result (Unit {0}) Fault
+
+abbrev pub fault : Check → Fault
+fault c = record { reason = c.reason; status = c.status }
+
 -- the first check of a list that the request fails (rule 8.2)
 abbrev pub first_failed : List Check → Checked
-first_failed [] = Checked.Passed
-first_failed (c ∷ cs) = cond c.fails (Checked.Refused c.reason c.status) (first_failed cs)
+first_failed [] = Ok tt
+first_failed (c ∷ cs) = cond c.fails (Err (fault c)) (first_failed cs)

@@ -1,5 +1,5 @@
 -- Section 6 of docs/RULES.md, completions.
-use Rattle.std.specs.Prelude.{ℕ, zero, suc, ◌+◌, ◌*◌, ◌/◌, ◌%◌, Bool, cond, ◌||◌, List, [], ◌∷◌, map, eqb, ℤ, pos, negsuc, length, get_or}
+use Rattle.std.specs.Prelude.{ℕ, zero, suc, ◌+◌, ◌*◌, ◌/◌, ◌%◌, Bool, cond, ◌||◌, List, [], ◌∷◌, map, Result, Ok, Err, eqb, ℤ, pos, negsuc, length, get_or}
 use Rattle.std.specs.Int.{w64}
 use Rattle.std.proofs.Common.{of_z, to_z}
 use Rattle.model.specs.Ring.{flush, discard}
@@ -8,6 +8,7 @@ use Rattle.model.specs.Calls.{CompleteAnswer, none_done, all_done, CompleteEffec
 use Rattle.model.specs.Turn.{port_id, tag_id, serial_of, ResponseDue, due_to, responded_all_at, notifies_all}
 use Rattle.model.specs.declared.Completed.{Completed}
 use Rattle.model.specs.declared.Plan.{Plan}
+use Rattle.model.specs.declared.Refusal.{Refusal}
 use Rattle.model.specs.declared.Serial.{Serial}
 use Rattle.model.specs.declared.Status.{Status}
 use Rattle.model.specs.declared.TagId.{TagId}
@@ -49,9 +50,9 @@ are_entries words = eqb (length words % entry_words) 0
 abbrev pub the_one : TagId → Serial → ℤ → List ℕ
 the_one t s result = t.0 ∷ s.0 ∷ of_z w64 result ∷ []
 
-abbrev pub of_one : Completed → CompleteAnswer
-of_one (Completed.Refused n) = none_done n
-of_one (Completed.Done p s y) = all_done p (s ∷ []) y
+abbrev pub of_one : Result Completed Refusal → CompleteAnswer
+of_one (Ok c) = all_done c.port (c.status ∷ []) c.notify
+of_one (Err e) = none_done e
 
 -- ---- what is due
 

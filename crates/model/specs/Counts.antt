@@ -1,7 +1,7 @@
 -- Section 15 of docs/RULES.md, rules 15.3 to 15.9: what the counters hold after every list of calls and zeroings. An answer is handed over before anything else is
 -- done, so such a list has calls, each with the record that its answer went to, and zeroings. The counts are read off the history alone: from the answers, and
 -- from the pages as the calls left them. The proof is `counted`, in proofs/Counts.antt.
-use Rattle.std.specs.Prelude.{ℕ, suc, min, ◌≡◌, ◌⊎◌, Bool, true, false, cond, List, [], ◌∷◌, eqb}
+use Rattle.std.specs.Prelude.{ℕ, suc, min, ◌≡◌, ◌⊎◌, Bool, true, false, cond, List, [], ◌∷◌, Result, Ok, Err, eqb}
 use Rattle.std.proofs.Math.Option.{Option, none, some}
 use Rattle.model.specs.Ring.{status_bits}
 use Rattle.model.specs.Calls.{Call, Open, Close, Turn, Complete, CompleteAnswer, none_done, all_done, Effect, Event}
@@ -11,6 +11,7 @@ use Rattle.model.specs.History.{Response, Book, said, post, book}
 use Rattle.model.specs.Demand.{All, count, LendsBytes}
 use Rattle.model.specs.Counters.{zero_counters, most, after_turned, after_completed}
 use Rattle.model.specs.declared.Counters.{Counters}
+use Rattle.model.specs.declared.Refusal.{Refusal}
 use Rattle.model.specs.declared.Status.{Status}
 use Rattle.model.specs.declared.Turned.{Turned}
 
@@ -74,15 +75,15 @@ shows s a = eqb a.status (status_bits s)
 -- ---- the records
 
 -- the port that an answer names (rule 15.3); a refusal and an idle turn name none, and open and close have no answer to hand over (rule 15.8)
-abbrev pub turn_port : Turned → Option ℕ
-turn_port (Turned.Refused n) = none
-turn_port Turned.Idle = none
-turn_port (Turned.Overrun p) = some p.0
-turn_port (Turned.Started p t s plan) = some p.0
-turn_port (Turned.Answered p n z y) = some p.0
+abbrev pub turn_port : Result Turned Refusal → Option ℕ
+turn_port (Err e) = none
+turn_port (Ok Turned.Idle) = none
+turn_port (Ok (Turned.Overrun p)) = some p.0
+turn_port (Ok (Turned.Started p t s plan)) = some p.0
+turn_port (Ok (Turned.Answered p f y)) = some p.0
 
 abbrev pub done_port : CompleteAnswer → Option ℕ
-done_port (none_done n) = none
+done_port (none_done e) = none
 done_port (all_done p zs y) = some p.0
 
 abbrev pub answer_port : (c : Call) → Effect c → Option ℕ

@@ -1,14 +1,13 @@
 -- Section 12 of docs/RULES.md, rules 12.7 to 12.14: what an event does, deed by deed, in the order done. A deed belongs to one port. What becomes of that port,
 -- and what the history books of it, both go by deeds, so a call that does more than one thing is a list of deeds and nothing else changes.
-use Rattle.std.specs.Prelude.{ℕ, ◌+◌, ◌%◌, List, [], ◌∷◌}
+use Rattle.std.specs.Prelude.{ℕ, ◌+◌, ◌%◌, List, [], ◌∷◌, Result, Ok, Err}
 use Rattle.model.specs.Buffers.{ports}
-use Rattle.model.specs.NodeSheet.{sheet_of}
+use Rattle.model.specs.NodeSheet.{Sheet, sheet_of}
 use Rattle.model.specs.Port.{zero_params}
-use Rattle.model.specs.Calls.{Call, Open, Close, Turn, Complete, CompleteAnswer, none_done, all_done, Effect, Event}
+use Rattle.model.specs.Calls.{Reply, Call, Open, Close, Turn, Complete, CompleteAnswer, none_done, all_done, Effect, Event}
 use Rattle.model.specs.Complete.{Completion, completions_in, expected_of}
 use Rattle.model.specs.declared.Params.{Params}
-use Rattle.model.specs.declared.Reply.{Reply}
-use Rattle.model.specs.declared.Sheet.{Sheet}
+use Rattle.model.specs.declared.Refusal.{Refusal}
 use Rattle.model.specs.declared.Status.{Status}
 use Rattle.model.specs.declared.Turned.{Turned}
 
@@ -33,26 +32,26 @@ port_of (finishing k left t s z) = k
 
 -- the params that an opened port takes from its sheet (rule 4.2)
 abbrev pub params_in : Sheet → Params
-params_in (Sheet.Read p) = p
-params_in (Sheet.Refused n) = zero_params
+params_in (Ok p) = p
+params_in (Err e) = zero_params
 
 -- An open that is done opens its port (rules 12.7 and 12.9).
 abbrev pub open_deeds : ℕ → List ℕ → Reply → List Deed
-open_deeds k sheet (Reply.Refused n) = []
-open_deeds k sheet Reply.Done = opening k (params_in (sheet_of sheet)) ∷ []
+open_deeds k sheet (Err e) = []
+open_deeds k sheet (Ok done) = opening k (params_in (sheet_of sheet)) ∷ []
 
 -- A close that is done closes its port (rules 12.7 and 12.9).
 abbrev pub close_deeds : ℕ → Reply → List Deed
-close_deeds k (Reply.Refused n) = []
-close_deeds k Reply.Done = closing k ∷ []
+close_deeds k (Err e) = []
+close_deeds k (Ok done) = closing k ∷ []
 
 -- A turn does one thing to the port in its answer (rules 12.9 to 12.13); a refused or idle one does nothing (rules 12.7 and 12.8).
-abbrev pub turn_deeds : List ℕ → List ℕ → Turned → List Deed
-turn_deeds lent left (Turned.Refused n) = []
-turn_deeds lent left Turned.Idle = []
-turn_deeds lent left (Turned.Overrun p) = breaking p.0 ∷ []
-turn_deeds lent left (Turned.Started p t s plan) = starting p.0 lent t.0 s.0 (expected_of plan) ∷ []
-turn_deeds lent left (Turned.Answered p n z y) = answering p.0 lent left z ∷ []
+abbrev pub turn_deeds : List ℕ → List ℕ → Result Turned Refusal → List Deed
+turn_deeds lent left (Err e) = []
+turn_deeds lent left (Ok Turned.Idle) = []
+turn_deeds lent left (Ok (Turned.Overrun p)) = breaking p.0 ∷ []
+turn_deeds lent left (Ok (Turned.Started p t s plan)) = starting p.0 lent t.0 s.0 (expected_of plan) ∷ []
+turn_deeds lent left (Ok (Turned.Answered p f y)) = answering p.0 lent left f.status ∷ []
 
 -- Each entry of a list finishes what it named, port k and its tag and serial, with the status that the answer has for it, in the list's order (rule 12.14).
 abbrev pub finishings : List ℕ → ℕ → List Completion → List Status → List Deed
@@ -62,7 +61,7 @@ finishings left k (c ∷ cs) (z ∷ zs) = finishing k left c.tag.0 c.serial.0 z 
 
 -- A completion that is done finishes all that it named, a refused one nothing (rules 12.7 and 12.14). Of its answer only the statuses are booked (rule 12.34).
 abbrev pub complete_deeds : List ℕ → ℕ → List Completion → CompleteAnswer → List Deed
-complete_deeds left k cs (none_done n) = []
+complete_deeds left k cs (none_done e) = []
 complete_deeds left k cs (all_done p zs y) = finishings left k cs zs
 
 -- the deeds of a call with this effect
@@ -83,12 +82,12 @@ pub data Round : Type 0 where
   served : (lent : List ℕ) (port : ℕ) → Round
 
 -- a turn, by its answer
-abbrev pub turn_round : List ℕ → Turned → Round
-turn_round lent (Turned.Refused n) = no_turn
-turn_round lent Turned.Idle = unserved lent
-turn_round lent (Turned.Overrun p) = served lent p.0
-turn_round lent (Turned.Started p t s plan) = served lent p.0
-turn_round lent (Turned.Answered p n z y) = served lent p.0
+abbrev pub turn_round : List ℕ → Result Turned Refusal → Round
+turn_round lent (Err e) = no_turn
+turn_round lent (Ok Turned.Idle) = unserved lent
+turn_round lent (Ok (Turned.Overrun p)) = served lent p.0
+turn_round lent (Ok (Turned.Started p t s plan)) = served lent p.0
+turn_round lent (Ok (Turned.Answered p f y)) = served lent p.0
 
 -- a call with this effect
 abbrev pub round : (c : Call) → Effect c → Round

@@ -1,6 +1,7 @@
 pub mod Base
 pub mod Buffers
 pub mod Ring
+pub mod Numbers
 pub mod NodeSheet
 pub mod Port
 pub mod Checks

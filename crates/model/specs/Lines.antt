@@ -1,10 +1,11 @@
 -- Section 9 of docs/RULES.md: the worked cases with a star, as one list of tests that the checker computes (rule 9.1). The others (rules 9.7, 9.12, 9.13, 9.19 to
 -- 9.21, 9.25 and 9.42 to 9.44) are run through the code.
-use Rattle.std.specs.Prelude.{ℕ, zero, suc, ◌+◌, ◌*◌, Bool, true, false, not, cond, List, [], ◌∷◌, eqb, ℤ, pos, negsuc, replicate, set}
+use Rattle.std.specs.Prelude.{ℕ, zero, suc, ◌+◌, ◌*◌, Bool, true, false, not, cond, List, [], ◌∷◌, Ok, Err, eqb, ℤ, pos, negsuc, replicate, set}
 use Rattle.wire.specs.LittleEndian.{store}
 use Rattle.model.specs.Ring.{Layout, layout_of, request_of, status_bits, read, write, barrier, discard}
+use Rattle.model.specs.Numbers.{reason_number}
 use Rattle.model.specs.Port.{in_flight_of, View, free}
-use Rattle.model.specs.Plan.{verdict_of}
+use Rattle.model.specs.Plan.{Verdict, verdict_of}
 use Rattle.model.specs.Turn.{pending_at}
 use Rattle.model.specs.Complete.{status_of}
 use Rattle.model.specs.declared.Abi.{Abi}
@@ -14,7 +15,6 @@ use Rattle.model.specs.declared.Pending.{Pending}
 use Rattle.model.specs.declared.SectorSize.{SectorSize}
 use Rattle.model.specs.declared.State.{State}
 use Rattle.model.specs.declared.Status.{Status}
-use Rattle.model.specs.declared.Verdict.{Verdict}
 
 -- a disk with every feature, secure discards or not, and a ring of so many pages; `usual` is that of section 9
 abbrev disk_with : Bool → Bool → SectorSize → ℕ → Pages → Params
@@ -64,18 +64,18 @@ judge p grants bytes = verdict_of p grants (request_of layout bytes)
 
 -- the request is refused with this reason
 abbrev refused : ℕ → Verdict → Bool
-refused n (Verdict.Refused m s) = eqb n m
-refused n (Verdict.Start plan) = false
+refused n (Ok plan) = false
+refused n (Err f) = eqb n (reason_number f.reason)
 
 -- the request starts, with this count
 abbrev starts : ℕ → Verdict → Bool
-starts count (Verdict.Refused m s) = false
-starts count (Verdict.Start plan) = eqb count plan.count
+starts count (Ok plan) = eqb count plan.count
+starts count (Err f) = false
 
 -- it starts, and its secure mark is this
 abbrev marked : Bool → Verdict → Bool
-marked secure (Verdict.Refused m s) = false
-marked secure (Verdict.Start plan) = cond secure plan.secure (not plan.secure)
+marked secure (Ok plan) = cond secure plan.secure (not plan.secure)
+marked secure (Err f) = false
 
 abbrev waits : Pending → Bool
 waits Pending.Nothing = false

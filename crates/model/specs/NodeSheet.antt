@@ -1,16 +1,16 @@
--- Section 3 of docs/RULES.md: what a node sheet says of a port, or the number that it is refused with, 11 to 15 (rules 7.11 to 7.15). The sheet of rule 3.12 is
+-- Section 3 of docs/RULES.md: what a node sheet says of a port, or why it is refused, 11 to 15 (rules 7.11 to 7.15). The sheet of rule 3.12 is
 -- computed in proofs/Sheets.antt.
-use Rattle.std.specs.Prelude.{ℕ, zero, suc, ◌+◌, ◌-◌, ◌*◌, ◌^◌, Bool, true, false, not, cond, ◌&&◌, ◌||◌, List, [], ◌∷◌, eqb, ltb, leb, length, get_or}
+use Rattle.std.specs.Prelude.{ℕ, zero, suc, ◌+◌, ◌-◌, ◌*◌, ◌^◌, Bool, true, false, not, cond, ◌&&◌, ◌||◌, List, [], ◌∷◌, Result, Ok, Err, eqb, ltb, leb, length, get_or}
 use Rattle.wire.specs.LittleEndian.{load}
 use Rattle.wire.specs.Part.{part}
 use Rattle.model.specs.Base.{◌⇒◌, first_of, all, same}
+use Rattle.model.specs.Numbers.{number_refusal}
 use Rattle.model.specs.declared.Abi.{Abi}
-use Rattle.model.specs.declared.Body.{Body}
-use Rattle.model.specs.declared.Number.{Number}
+use Rattle.model.specs.declared.NumberError.{NumberError}
 use Rattle.model.specs.declared.Pages.{Pages}
 use Rattle.model.specs.declared.Params.{Params}
+use Rattle.model.specs.declared.Refusal.{Refusal}
 use Rattle.model.specs.declared.SectorSize.{SectorSize}
-use Rattle.model.specs.declared.Sheet.{Sheet}
 
 -- ---- the table of contents
 
@@ -76,31 +76,37 @@ unfoldable pub digits_from : ℕ → List ℕ → ℕ
 digits_from v [] = v
 digits_from v (d ∷ ds) = digits_from (v * 10 + (d - 48)) ds
 
+-- what the decimal digits of a body spell, or why they are no number (rules 3.7 and 3.8)
+abbrev pub Number : Type 0
+Number = Result ℕ NumberError
+
 -- a number that is too great is one all the same (rule 3.8)
 unfoldable pub capped : ℕ → Number
-capped v = cond (ltb v (2 ^ 64)) (Number.Value v) Number.TooBig
+capped v = cond (ltb v (2 ^ 64)) (Ok v) (Err NumberError.TooBig)
 
 -- what digits alone spell (rule 3.7)
 unfoldable pub digits_of : List ℕ → Number
-digits_of text = cond (all is_digit text) (capped (digits_from 0 text)) Number.NotANumber
+digits_of text = cond (all is_digit text) (capped (digits_from 0 text)) (Err NumberError.NotANumber)
 
 -- the number that a text spells: digits, with a 0 in front in "0" alone (rule 3.7)
 unfoldable pub number_of : List ℕ → Number
-number_of [] = Number.NotANumber
+number_of [] = Err NumberError.NotANumber
 number_of (d ∷ []) = digits_of (d ∷ [])
-number_of (d ∷ e ∷ ds) = cond (eqb d 48) Number.NotANumber (digits_of (d ∷ e ∷ ds))
+number_of (d ∷ e ∷ ds) = cond (eqb d 48) (Err NumberError.NotANumber) (digits_of (d ∷ e ∷ ds))
 
--- ---- bodies: each gives a value, or a refusal's number (rule 3.9)
+-- ---- bodies: each gives a value, or a refusal (rule 3.9)
+
+abbrev pub Body : Type 0
+Body = Result ℕ Refusal
 
 -- one of two texts, for 0 and for 1; any other is 13 (rules 3.5 and 7.13)
 unfoldable pub choice_body : List ℕ → List ℕ → List ℕ → Body
-choice_body text off on = first_of (same text off ⇒ Body.Value 0 ∷ same text on ⇒ Body.Value 1 ∷ []) (Body.Refused 13)
+choice_body text off on = first_of (same text off ⇒ Ok 0 ∷ same text on ⇒ Ok 1 ∷ []) (Err Refusal.SheetText)
 
 -- a number, where the node allows it; no number is 13, another number 14 (rules 7.13 and 7.14)
 unfoldable pub number_body : (ℕ → Bool) → Number → Body
-number_body allowed (Number.Value v) = cond (allowed v) (Body.Value v) (Body.Refused 14)
-number_body allowed Number.TooBig = Body.Refused 14
-number_body allowed Number.NotANumber = Body.Refused 13
+number_body allowed (Ok v) = cond (allowed v) (Ok v) (Err Refusal.SheetNumber)
+number_body allowed (Err e) = Err (number_refusal e)
 
 -- the four sizes that a sector can have (rule 3.5)
 unfoldable pub is_sector_size : ℕ → Bool
@@ -127,10 +133,14 @@ body_of node text =
     ∷ [])
     (number_body (is_allowed node) (number_of text))
 
+-- what a whole sheet comes to: a port's params, or its refusal (rule 3.10)
+abbrev pub Sheet : Type 0
+Sheet = Result Params Refusal
+
 -- a body at fault refuses the sheet, whatever else would be said: so the first one settles it (rule 3.11)
 unfoldable pub after_body : Body → Sheet → Sheet
-after_body (Body.Value v) then = then
-after_body (Body.Refused n) then = Sheet.Refused n
+after_body (Ok v) then = then
+after_body (Err e) then = Err e
 
 -- and the bodies of these entries, one after another (rules 3.10 and 3.11)
 unfoldable pub after_bodies : List Entry → Sheet → Sheet
@@ -141,8 +151,8 @@ after_bodies (e ∷ es) then = after_body (body_of e.node e.body) (after_bodies 
 
 -- the value of a body; one at fault has refused the sheet before this is asked (rule 3.9)
 abbrev pub body_value : Body → ℕ
-body_value (Body.Value v) = v
-body_value (Body.Refused n) = 0
+body_value (Ok v) = v
+body_value (Err e) = 0
 
 -- the value of a node: its body's, or what it is when absent (rule 3.5)
 unfoldable pub value_of : ℕ → ℕ → List Entry → ℕ
@@ -201,8 +211,8 @@ has_required es = present 1 es && present 6 es && present 7 es
 unfoldable pub sheet_of : List ℕ → Sheet
 sheet_of sheet =
     first_of
-    (not (well_formed sheet) ⇒ Sheet.Refused 11
-    ∷ not (rising 0 (entries_of sheet)) ⇒ Sheet.Refused 12
+    (not (well_formed sheet) ⇒ Err Refusal.SheetShape
+    ∷ not (rising 0 (entries_of sheet)) ⇒ Err Refusal.SheetNodes
     ∷ [])
     (after_bodies (entries_of sheet)
-    (cond (has_required (entries_of sheet)) (Sheet.Read (params_of (values_of (entries_of sheet)))) (Sheet.Refused 15)))
+    (cond (has_required (entries_of sheet)) (Ok (params_of (values_of (entries_of sheet)))) (Err Refusal.SheetMissing)))

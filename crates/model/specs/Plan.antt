@@ -1,12 +1,11 @@
 -- Section 5 of docs/RULES.md, plans: that of a request that passed the checks, and the verdict on any request.
-use Rattle.std.specs.Prelude.{ℕ, zero, suc, ◌+◌, ◌*◌, ◌%◌, Bool, cond, ◌&&◌, List, [], ◌∷◌, eqb, length}
+use Rattle.std.specs.Prelude.{ℕ, zero, suc, ◌+◌, ◌*◌, ◌%◌, Bool, cond, ◌&&◌, List, [], ◌∷◌, Result, Ok, Err, eqb, length}
 use Rattle.model.specs.Ring.{Request, discard}
-use Rattle.model.specs.Checks.{is_a, max_segments, moves_nothing, sectors_in, count_of, checks, first_failed}
-use Rattle.model.specs.declared.Checked.{Checked}
+use Rattle.model.specs.Checks.{is_a, max_segments, moves_nothing, sectors_in, count_of, Checked, checks, first_failed}
+use Rattle.model.specs.declared.Fault.{Fault}
 use Rattle.model.specs.declared.Params.{Params}
 use Rattle.model.specs.declared.Plan.{Plan}
 use Rattle.model.specs.declared.Segment.{Segment}
-use Rattle.model.specs.declared.Verdict.{Verdict}
 
 -- An extent (piece): a run of sectors in a frame, and its place on the disk (rule 5.27).
 pub record Extent : Type 0 where
@@ -49,10 +48,14 @@ plan_of p r = record {
   extents = length (extents_of r);
 }
 
+-- what all the checks say: the request's plan, or why it is refused (rule 5.19)
+abbrev pub Verdict : Type 0
+Verdict = Result Plan Fault
+
 -- a request that passes starts, with its plan (rule 5.19)
 abbrev pub decided : Plan → Checked → Verdict
-decided plan Checked.Passed = Verdict.Start plan
-decided plan (Checked.Refused n s) = Verdict.Refused n s
+decided plan (Ok passed) = Ok plan
+decided plan (Err f) = Err f
 
 -- the verdict on a request, by its own checks and its own plan (rules 5.19, 8.2 and 11.5)
 unfoldable pub verdict_of : Params → List ℕ → Request → Verdict
@@ -68,5 +71,5 @@ no_words = extent_words max_segments []
 
 -- the words that stand beside a verdict: a plan's extents (rules 5.33 and 5.34)
 unfoldable pub words_beside : Request → Verdict → List ℕ
-words_beside r (Verdict.Refused n s) = no_words
-words_beside r (Verdict.Start plan) = extent_words max_segments (extents_of r)
+words_beside r (Err f) = no_words
+words_beside r (Ok plan) = extent_words max_segments (extents_of r)

@@ -1,20 +1,18 @@
 -- Section 7 of docs/RULES.md, over a view: `due` is the whole event of a call, its answer and every byte that it leaves. Of the refusals that apply the
 -- lowest is given (rule 1.15), but 7 before 6 (rule 7.7); a refused call changes no byte (rules 1.13 and 1.14).
-use Rattle.std.specs.Prelude.{ℕ, Bool, true, false, not, ◌&&◌, ◌||◌, List, [], ◌∷◌, eqb, ltb, leb, length}
+use Rattle.std.specs.Prelude.{ℕ, Bool, true, false, not, ◌&&◌, ◌||◌, List, [], ◌∷◌, Ok, Err, eqb, ltb, leb, length}
 use Rattle.model.specs.Base.{◌⇒◌, first_of}
 use Rattle.model.specs.Buffers.{ports, are_rings, are_grants}
 use Rattle.model.specs.Ring.{Ring}
-use Rattle.model.specs.NodeSheet.{sheet_of}
+use Rattle.model.specs.NodeSheet.{Sheet, sheet_of}
 use Rattle.model.specs.Port.{is_closed, View, Holder, free, held}
-use Rattle.model.specs.Calls.{Call, Open, Close, Turn, Complete, TurnEffect, none_done, CompleteEffect, Effect, Event, most_completions}
+use Rattle.model.specs.Calls.{Reply, Call, Open, Close, Turn, Complete, TurnEffect, none_done, CompleteEffect, Effect, Event, most_completions}
 use Rattle.model.specs.Turn.{ring_at, turned}
 use Rattle.model.specs.Complete.{Completion, completions_in, are_entries, completed}
 use Rattle.model.specs.declared.PortId.{PortId}
-use Rattle.model.specs.declared.Reply.{Reply}
+use Rattle.model.specs.declared.Refusal.{Refusal}
 use Rattle.model.specs.declared.Serial.{Serial}
-use Rattle.model.specs.declared.Sheet.{Sheet}
 use Rattle.model.specs.declared.TagId.{TagId}
-use Rattle.model.specs.declared.Turned.{Turned}
 
 -- no port has this number (rule 7.2)
 abbrev pub no_port : PortId → Bool
@@ -22,15 +20,15 @@ no_port p = leb ports p.0
 
 -- a sheet that can be read opens the port; another has its own refusal (rules 7.11 to 7.15)
 unfoldable pub opened_by : Sheet → Reply
-opened_by (Sheet.Read p) = Reply.Done
-opened_by (Sheet.Refused n) = Reply.Refused n
+opened_by (Ok p) = Ok tt
+opened_by (Err e) = Err e
 
 -- open: 2 and 3, then those of the sheet (rules 7.2, 7.3 and 7.11 to 7.15)
 unfoldable pub due_open : View → PortId → List ℕ → Reply
 due_open v p sheet =
     first_of
-    (no_port p ⇒ Reply.Refused 2
-    ∷ not (is_closed (v.state p.0)) ⇒ Reply.Refused 3
+    (no_port p ⇒ Err Refusal.NoPort
+    ∷ not (is_closed (v.state p.0)) ⇒ Err Refusal.NotClosed
     ∷ [])
     (opened_by (sheet_of sheet))
 
@@ -38,17 +36,17 @@ due_open v p sheet =
 unfoldable pub due_close : View → PortId → Reply
 due_close v p =
     first_of
-    (no_port p ⇒ Reply.Refused 2
-    ∷ is_closed (v.state p.0) ⇒ Reply.Refused 4
-    ∷ not (eqb (v.in_flight p.0) 0) ⇒ Reply.Refused 5
+    (no_port p ⇒ Err Refusal.NoPort
+    ∷ is_closed (v.state p.0) ⇒ Err Refusal.IsClosed
+    ∷ not (eqb (v.in_flight p.0) 0) ⇒ Err Refusal.InFlight
     ∷ [])
-    Reply.Done
+    (Ok tt)
 
 -- turn (rule 7.1)
 unfoldable pub due_turn : View → List ℕ → List ℕ → List ℕ → TurnEffect
 due_turn v rings grants words =
     first_of
-    (not (are_rings rings && are_grants grants) ⇒ record { rings = rings; words = words; answer = Turned.Refused 1 }
+    (not (are_rings rings && are_grants grants) ⇒ record { rings = rings; words = words; answer = Err Refusal.WrongLength }
     ∷ [])
     (turned v rings grants)
 
@@ -77,19 +75,19 @@ named_twice [] = false
 named_twice (c ∷ cs) = any_names c.tag.0 cs || named_twice cs
 
 -- a completion that is refused: none of its entries is done (rules 1.13 and 1.14)
-unfoldable pub refused_completion : List ℕ → ℕ → CompleteEffect
-refused_completion rings n = record { rings = rings; answer = none_done n }
+unfoldable pub refused_completion : List ℕ → Refusal → CompleteEffect
+refused_completion rings e = record { rings = rings; answer = none_done e }
 
 -- complete (rules 7.1, 7.2, 7.4, 7.6 and 7.7)
 unfoldable pub due_complete : View → List ℕ → PortId → List ℕ → CompleteEffect
 due_complete v rings p entries =
     let cs = completions_in entries in
     first_of
-    (not (are_rings rings && are_entries entries) ⇒ refused_completion rings 1
-    ∷ no_port p ⇒ refused_completion rings 2
-    ∷ is_closed (v.state p.0) ⇒ refused_completion rings 4
-    ∷ ltb most_completions (length cs) ⇒ refused_completion rings 7
-    ∷ (any_names_none (ring_at v p.0) (v.tag p.0) cs || named_twice cs) ⇒ refused_completion rings 6
+    (not (are_rings rings && are_entries entries) ⇒ refused_completion rings Refusal.WrongLength
+    ∷ no_port p ⇒ refused_completion rings Refusal.NoPort
+    ∷ is_closed (v.state p.0) ⇒ refused_completion rings Refusal.IsClosed
+    ∷ ltb most_completions (length cs) ⇒ refused_completion rings Refusal.TooMany
+    ∷ (any_names_none (ring_at v p.0) (v.tag p.0) cs || named_twice cs) ⇒ refused_completion rings Refusal.NotBusy
     ∷ [])
     (completed v rings p.0 cs)
 

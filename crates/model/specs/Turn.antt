@@ -1,11 +1,11 @@
 -- Sections 5 and 6 of docs/RULES.md: which port a turn serves, what it answers and leaves in the rings, and how a response is given. What becomes of the
 -- port and the pointer stands in Deeds and Backend.
-use Rattle.std.specs.Prelude.{ℕ, zero, suc, ◌+◌, ◌%◌, Bool, cond, ◌&&◌, List, [], ◌∷◌, ltb, length}
+use Rattle.std.specs.Prelude.{ℕ, zero, suc, ◌+◌, ◌%◌, Bool, cond, ◌&&◌, List, [], ◌∷◌, Ok, Err, ltb, length}
 use Rattle.model.specs.Base.{least}
 use Rattle.model.specs.Buffers.{ports, pages_of, set_pages, grants_of}
 use Rattle.model.specs.Ring.{Ring, Request, req_prod, set_req_event, set_rsp_prod, rsp_event, ring_of, slot_at, slot_of, request_of, set_response}
 use Rattle.model.specs.Port.{is_open, View, lowest_free, distance, pending_of, is_work, further, after}
-use Rattle.model.specs.Plan.{verdict_of, no_words, words_beside}
+use Rattle.model.specs.Plan.{Verdict, verdict_of, no_words, words_beside}
 use Rattle.model.specs.Calls.{TurnEffect}
 use Rattle.model.specs.declared.Pair.{Pair}
 use Rattle.model.specs.declared.Pending.{Pending}
@@ -15,7 +15,6 @@ use Rattle.model.specs.declared.State.{State}
 use Rattle.model.specs.declared.Status.{Status}
 use Rattle.model.specs.declared.TagId.{TagId}
 use Rattle.model.specs.declared.Turned.{Turned}
-use Rattle.model.specs.declared.Verdict.{Verdict}
 
 abbrev pub port_id : ℕ → PortId
 port_id k = record { 0 = k }
@@ -65,7 +64,7 @@ armed v rings (suc k) = armed_port (ring_at v k) (v.state k) (armed v rings k) k
 
 -- an idle turn: no byte changes but those of req_event (rules 5.6, 5.8 and 5.9)
 unfoldable pub idle : View → List ℕ → TurnEffect
-idle v rings = record { rings = armed v rings ports; words = no_words; answer = Turned.Idle }
+idle v rings = record { rings = armed v rings ports; words = no_words; answer = Ok Turned.Idle }
 
 -- ---- responses
 
@@ -121,20 +120,20 @@ request_at v rings k = request_of (ring_at v k).layout (slot_of (ring_at v k) (p
 -- What a turn makes of the request that it took. One that fails a check gets its response (rules 5.31 and 5.32); one that passes them starts, under the
 -- lowest free tag, with req_cons for its serial, and no page changes (rules 5.19 to 5.22 and 5.30).
 unfoldable pub settled : View → List ℕ → ℕ → Request → Verdict → TurnEffect
-settled v rings k r (Verdict.Refused n s) = record {
-  rings = responded_at v rings k r.pair s;
-  words = words_beside r (Verdict.Refused n s);
-  answer = Turned.Answered (port_id k) n s (notifies v rings k);
+settled v rings k r (Err f) = record {
+  rings = responded_at v rings k r.pair f.status;
+  words = words_beside r (Err f);
+  answer = Ok (Turned.Answered (port_id k) f (notifies v rings k));
 }
-settled v rings k r (Verdict.Start plan) = record {
+settled v rings k r (Ok plan) = record {
   rings = rings;
-  words = words_beside r (Verdict.Start plan);
-  answer = Turned.Started (port_id k) (tag_id (lowest_free (ring_at v k).size (v.tag k))) (serial_of (v.consumed k)) plan;
+  words = words_beside r (Ok plan);
+  answer = Ok (Turned.Started (port_id k) (tag_id (lowest_free (ring_at v k).size (v.tag k))) (serial_of (v.consumed k)) plan);
 }
 
 -- an overrun is served: the bytes stay (rules 5.11 and 5.12)
 unfoldable pub overran : List ℕ → ℕ → TurnEffect
-overran rings k = record { rings = rings; words = no_words; answer = Turned.Overrun (port_id k) }
+overran rings k = record { rings = rings; words = no_words; answer = Ok (Turned.Overrun (port_id k)) }
 
 -- port k is served, by what its req_prod says (rule 4.12); where that is nothing, it is not (rule 11.10)
 unfoldable pub served_by : View → List ℕ → List ℕ → ℕ → Pending → TurnEffect

@@ -1,14 +1,20 @@
 // The types that every layer shares. What they mean, and all the rules, stand in specs/.
 #![tactic(auto)]
 
+ghost use Rattle.std.specs.Prelude.{◌≡◌};
+ghost use Rattle.model.specs.Numbers.{fault_of, number_refusal, operation_of, reason_number, refusal_number};
+ghost use Rattle.model.specs.Ring.{status_number};
+
 pub mod buffer;
 pub mod grant;
 pub mod limit;
 pub mod node;
-pub mod operation;
-pub mod reason;
-pub mod refusal;
+mod port_index;
 pub mod result;
+mod tag_index;
+
+pub use port_index::PortIndex;
+pub use tag_index::TagIndex;
 
 // A port's number, as the host hands it in: any u32, 0 to 7 are ports (rules 1.1 and 7.2).
 #[derive(Clone, Copy)]
@@ -36,6 +42,13 @@ pub enum Pages {
     Two,
 }
 
+// How a guest lays out its ring: the records in it, and the pages that it has.
+#[derive(Clone, Copy)]
+pub struct Format {
+    pub abi: Abi,
+    pub pages: Pages,
+}
+
 // The disk's sector size, in bytes (rule 3.5).
 #[derive(Clone, Copy)]
 pub enum SectorSize {
@@ -59,26 +72,70 @@ pub struct Params {
     pub pages: Pages,
 }
 
-// What the decimal digits of a body spell (rules 3.7 and 3.8).
+impl Params {
+    // How the port's guest lays out its ring.
+    pub fn format(self) -> Format
+        ensures { (result.abi ≡ self.abi) × (result.pages ≡ self.pages) }
+    {
+        Format {
+            abi: self.abi,
+            pages: self.pages,
+        }
+    }
+}
+
+// Why the bytes of a body are not the decimal digits of a number (rules 3.7 and 3.8).
 #[derive(Clone, Copy)]
-pub enum Number {
-    Value(u64),
+pub enum NumberError {
     TooBig,
     NotANumber,
 }
 
-// What a body of the sheet comes to: a value, or the number of its refusal (rule 3.9).
+// Why a call is refused, by its number (rules 7.1 to 7.7 and 7.11 to 7.15; 17.5 to 17.10 of joining; 16.3 and 16.10 of the guest's half).
 #[derive(Clone, Copy)]
-pub enum Body {
-    Value(u64),
-    Refused(u32),
+pub enum Refusal {
+    WrongLength = 1,
+    NoPort = 2,
+    NotClosed = 3,
+    IsClosed = 4,
+    InFlight = 5,
+    NotBusy = 6,
+    TooMany = 7,
+    // Those of joining.
+    TooFewFrames = 8,
+    TooFewRuns = 9,
+    NoPlan = 10,
+    // Those of a node sheet.
+    SheetShape = 11,
+    SheetNodes = 12,
+    SheetText = 13,
+    SheetNumber = 14,
+    SheetMissing = 15,
+    // Those of the guest's half.
+    RingFull = 31,
+    IdOutstanding = 32,
+    BadRequest = 33,
+    BadRspProd = 34,
+    NotOutstanding = 35,
 }
 
-// What a whole sheet comes to: a port's params, or the number of its refusal (rule 3.10).
-#[derive(Clone, Copy)]
-pub enum Sheet {
-    Read(Params),
-    Refused(u32),
+impl From<Refusal> for u32 {
+    ghost from_gives = { λ refusal number. number ≡ refusal_number refusal };
+
+    fn from(refusal: Refusal) -> u32 {
+        refusal as u32
+    }
+}
+
+impl From<NumberError> for Refusal {
+    ghost from_gives = { λ error refusal. refusal ≡ number_refusal error };
+
+    fn from(error: NumberError) -> Refusal {
+        match error {
+            NumberError::TooBig => Refusal::SheetNumber,
+            NumberError::NotANumber => Refusal::SheetText,
+        }
+    }
 }
 
 // What a port can be (rule 4.1).
@@ -97,6 +154,34 @@ pub struct Port {
     pub consumed: u32,
     pub produced: u32,
     pub busy: u64,
+}
+
+// The operations of a request, by their numbers (rule 2.14).
+#[derive(Clone, Copy)]
+pub enum Operation {
+    Read = 0,
+    Write = 1,
+    Barrier = 2,
+    Flush = 3,
+    Discard = 5,
+}
+
+// Every other number is unknown (rule 8.21).
+impl TryFrom<u8> for Operation {
+    type Error = Reason;
+
+    ghost try_from_gives = { λ number operation. operation ≡ operation_of number };
+
+    fn try_from(number: u8) -> Result<Operation, Reason> {
+        match number {
+            0 => Ok(Operation::Read),
+            1 => Ok(Operation::Write),
+            2 => Ok(Operation::Barrier),
+            3 => Ok(Operation::Flush),
+            5 => Ok(Operation::Discard),
+            _ => Err(Reason::UnknownOperation),
+        }
+    }
 }
 
 // What a guest tells its requests apart by (rule 12.12).
@@ -138,6 +223,19 @@ pub enum Status {
     NotSupported,
 }
 
+// The number that a response carries, below 0 for a failure.
+impl From<Status> for i16 {
+    ghost from_gives = { λ status number. number ≡ status_number status };
+
+    fn from(status: Status) -> i16 {
+        match status {
+            Status::Okay => 0,
+            Status::Error => -1,
+            Status::NotSupported => -2,
+        }
+    }
+}
+
 // What the host is to do (rule 5.22; operation is the plan's kind). Its extents stand beside it, in words that the caller lends (rule 5.33).
 #[derive(Clone, Copy)]
 pub struct Plan {
@@ -148,65 +246,77 @@ pub struct Plan {
     pub extents: u64,
 }
 
-// What checks say of a request: it passes them all, or the number of the first that it fails, with the status due (rule 8.2).
+// The check that a request fails, by its number, in the order in which they are made. 23 is withdrawn: its number stays unused.
 #[derive(Clone, Copy)]
-pub enum Checked {
-    Passed,
-    Refused(u32, Status),
+pub enum Reason {
+    UnknownOperation = 21,
+    FeatureOff = 22,
+    ReadOnly = 24,
+    WrongAmount = 25,
+    WrongSegment = 26,
+    NotGranted = 27,
+    PastEnd = 28,
+    Unaligned = 29,
 }
 
-// What all the checks say: a refusal, or the request's plan (rule 5.19).
-#[derive(Clone, Copy)]
-pub enum Verdict {
-    Refused(u32, Status),
-    Start(Plan),
+impl From<Reason> for u32 {
+    ghost from_gives = { λ reason number. number ≡ reason_number reason };
+
+    fn from(reason: Reason) -> u32 {
+        reason as u32
+    }
 }
 
-// The answer of open and close (rule 11.4).
+// Why a request is refused: the first check that it fails, and the status due (rule 8.2).
 #[derive(Clone, Copy)]
-pub enum Reply {
-    Refused(u32),
-    Done,
+pub struct Fault {
+    pub reason: Reason,
+    pub status: Status,
 }
 
-// The answer of a turn (rule 11.4).
+// Each check has its own status: what the backend does not know or offer is not supported (rules 8.21 to 8.29).
+impl From<Reason> for Fault {
+    ghost from_gives = { λ reason fault. fault ≡ fault_of reason };
+
+    fn from(reason: Reason) -> Fault {
+        let status = match reason {
+            Reason::UnknownOperation | Reason::FeatureOff => Status::NotSupported,
+            _ => Status::Error,
+        };
+        Fault { reason, status }
+    }
+}
+
+// What a turn did, where it was not refused (rule 11.4).
 #[derive(Clone, Copy)]
 pub enum Turned {
-    Refused(u32),
     Idle,
     Overrun(PortId),
     Started(PortId, TagId, Serial, Plan),
-    // The port, the reason 21 to 29, the status, and whether to notify the guest (rule 5.32).
-    Answered(PortId, u32, Status, bool),
+    // Which check the request failed, and whether to notify the guest (rule 5.32).
+    Answered(PortId, Fault, bool),
 }
 
-// The answer of a completion (rule 6.13).
+// What a completion did, and whether to notify the guest (rule 6.13).
 #[derive(Clone, Copy)]
-pub enum Completed {
-    Refused(u32),
-    Done(PortId, Status, bool),
+pub struct Completed {
+    pub port: PortId,
+    pub status: Status,
+    pub notify: bool,
 }
 
-// The answer of a list of completions. Its statuses stand beside it, in words that the caller lends (rules 6.22 and 14.15).
+// The same of a list. Its statuses stand beside it, in words that the caller lends (rules 6.22 and 14.15).
 #[derive(Clone, Copy)]
-pub enum CompletedMany {
-    Refused(u32),
-    Done(PortId, bool),
+pub struct CompletedMany {
+    pub port: PortId,
+    pub notify: bool,
 }
 
-// The answer of the guest's putting: whether to notify the backend (rule 16.9).
+// A response that the guest collected: the id and operation that it carries, and the 16 bits of its status (rule 16.14).
 #[derive(Clone, Copy)]
-pub enum Put {
-    Refused(u32),
-    Done(bool),
-}
-
-// The answer of the guest's collecting: the id and operation of a response, and the 16 bits of its status (rule 16.14).
-#[derive(Clone, Copy)]
-pub enum Collected {
-    Refused(u32),
-    Nothing,
-    Response(Pair, u16),
+pub struct Collected {
+    pub pair: Pair,
+    pub status: u16,
 }
 
 // A port's counters (meter): requests taken, and answers by their status (rule 15.1). The host's record, laid out as in C.
@@ -219,12 +329,11 @@ pub struct Counters {
     pub unsupported: u64,
 }
 
-// One of them, or none (rule 15.4).
+// One of them (rule 15.4).
 #[derive(Clone, Copy)]
 pub enum Counter {
     Taken,
     Okay,
     Error,
     NotSupported,
-    Nothing,
 }

@@ -4,19 +4,20 @@ use mathlib.Core.Bool.{true, ◌&&◌}
 use mathlib.Core.List.{List, [], ◌∷◌}
 use Prim.Native.Nat.{ℕ, zero, suc, ◌+◌, ◌<◌, ◌≤◌}
 use native.Mathlib.Decide.{ℕ_discrete}
+use native.Mathlib.Numerals.{add-one}
 use native.Mathlib.Omega.{arith}
 use lib.Dec.{ltb, leb}
-use lib.ListN.{length, get_or, set, replicate, length-set}
-use lib.Seq.{get_or-set_same, get_or-set_other}
+use lib.ListN.{length, get_or, set, length-set, replicate, take, drop, drop_of_length-le, length-drop}
+use lib.Seq.{drop-cons, get_or-set_same, get_or-set_other}
 use borrow.Author.Tests.{ltb-true, leb-true, eq-eqb, ne_eqb}
-use Rattle.wire.specs.Part.{part}
-use Rattle.model.specs.NodeSheet.{Entry, entry_at, body_length, entry_count, entries_of, rising, body_of, after_body, after_bodies, value_of, absent, values_of}
-use Rattle.model.specs.declared.Body.{Body}
-use Rattle.model.specs.declared.Sheet.{Sheet}
+use Rattle.std.specs.Prelude.{Ok, Err}
+use Rattle.std.specs.List.{sum_by}
+use Rattle.std.proofs.lemmas.List.Sums.{sum_by-cons}
+use Rattle.model.specs.NodeSheet.{Entry, Sheet, rising, body_of, after_body, after_bodies, value_of, absent, values_of}
+use Rattle.model.specs.declared.Refusal.{Refusal}
 use Rattle.model.proofs.Base.{and_left, and_right}
+use Rattle.contents.specs.Contents.{length_of, entries_in}
 use Rattle.nodes.specs.Values.{Readable, BodiesRead}
-use Rattle.nodes.specs.declared.bodies.Fault.{Fault}
-use Rattle.contents.proofs.Entries.{left, left-all, left-next, left-none, ends, ends-all, ends_next, body-within}
 
 -- ---- rising nodes
 
@@ -44,38 +45,8 @@ value-below (e ∷ es) before node a h l =
     let r = risen-cons before e es h in
     rw (ne_eqb e.node node (λ z. omega arith)) (value-below es e.node node a r.on (omega arith))
 
--- ---- a body further, or the refusal
+-- ---- what the code stores at first, by node; there is no node 0
 
-module _ (s : List ℕ) (i at : ℕ) (h : i < entry_count s) where
-  pub risen-next : (before : ℕ) → rising before (left s i at) ≡ true → Risen before (get_or s (entry_at i) 0) (left s (i + 1) (at + body_length s i))
-  risen-next before r = risen-cons before _ _ (rw (left-next s i at h) at r)
-
-  pub after_on : (v : ℕ) → body_of (get_or s (entry_at i) 0) (part (body_length s i) s at) ≡ Body.Value v
-      → (then : Sheet) → after_bodies (left s (i + 1) (at + body_length s i)) then ≡ after_bodies (left s i at) then
-  unfolding after_bodies after_body
-  after_on v e then = rw (left-next s i at h, e)
-
-  pub after_stop : (n : ℕ) → body_of (get_or s (entry_at i) 0) (part (body_length s i) s at) ≡ Body.Refused n
-      → (then : Sheet) → Sheet.Refused n ≡ after_bodies (left s i at) then
-  unfolding after_bodies after_body
-  after_stop n e then = rw (left-next s i at h, e)
-
-  -- the value stored at its node is what is looked up from here on
-  pub value_on : (values : List ℕ) (before v : ℕ) → length values ≡ 10 → rising before (left s i at) ≡ true
-      → body_of (get_or s (entry_at i) 0) (part (body_length s i) s at) ≡ Body.Value v → (node : ℕ)
-      → value_of node (get_or (set values (get_or s (entry_at i) 0) v) node 0) (left s (i + 1) (at + body_length s i)) ≡ value_of node (get_or values node 0) (left s i at)
-  unfolding value_of
-  value_on values before v l r e node =
-      let here = get_or s (entry_at i) 0 in
-      let n = risen-next before r in
-      elim (ℕ_discrete here node) [
-        | yes z ↦
-            rw (left-next s i at h, eq-eqb here node z, ← z, e, get_or-set_same values here v 0 (omega arith))
-            (value-below (left s (i + 1) (at + body_length s i)) here here v n.on (omega arith))
-        | no z ↦ rw (left-next s i at h, ne_eqb here node z, get_or-set_other values here node v 0 (λ y. z (sym y)))
-      ]
-
--- what the code stores at first, by node; there is no node 0
 abbrev stored : List ℕ
 stored = 0 ∷ 0 ∷ 0 ∷ 0 ∷ 0 ∷ 0 ∷ 512 ∷ 0 ∷ 0 ∷ 0 ∷ []
 
@@ -94,62 +65,89 @@ stored-absent node =
 
 -- ---- the walk
 
--- what holds at entry i, whose body begins at a place, of the values stored so far
-pub record Walked (s values : List ℕ) (at i : ℕ) : Type 0 where
-  pub few : i ≤ entry_count s
+-- what holds at entry i, whose body begins the rest, of the values stored so far
+pub record Walked (entries : List (List ℕ)) (bodies values rest : List ℕ) (i : ℕ) : Type 0 where
   pub long : length values ≡ 10
-  pub end : ends s i at ≡ length s
+  pub whole : sum_by length_of (drop i entries) ≡ length rest
   pub before : ℕ
-  pub risen : rising before (left s i at) ≡ true
-  pub after : (then : Sheet) → after_bodies (left s i at) then ≡ after_bodies (entries_of s) then
-  pub value : (node : ℕ) → value_of node (get_or values node 0) (left s i at) ≡ values_of (entries_of s) node
+  pub risen : rising before (entries_in (drop i entries) rest) ≡ true
+  pub after : (then : Sheet) → after_bodies (entries_in (drop i entries) rest) then ≡ after_bodies (entries_in entries bodies) then
+  pub value : (node : ℕ) → value_of node (get_or values node 0) (entries_in (drop i entries) rest) ≡ values_of (entries_in entries bodies) node
 
-pub walked_start : (s : List ℕ) → Readable s → Walked s stored (entry_at (entry_count s)) 0
+pub walked_start : (entries : List (List ℕ)) (bodies : List ℕ) → Readable entries bodies → Walked entries bodies stored bodies 0
 unfolding values_of
-walked_start s r = record {
-  few = omega arith;
+walked_start entries bodies r = record {
   long = refl;
-  end = ends-all s ∙ r.end;
+  whole = r.whole;
   before = 0;
-  risen = rw (left-all s) r.risen;
-  after = λ then. rw (left-all s);
-  value = λ node. rw (left-all s, stored-absent node);
+  risen = r.risen;
+  after = λ then. refl;
+  value = λ node. rw (stored-absent node);
 }
 
-module _ (s values : List ℕ) (at i : ℕ) (w : Walked s values at i) where
-  module _ (h : i < entry_count s) where
-    pub walked_next : (v : ℕ) → body_of (get_or s (entry_at i) 0) (part (body_length s i) s at) ≡ Body.Value v
-        → Walked s (set values (get_or s (entry_at i) 0) v) (at + body_length s i) (i + 1)
-    walked_next v e =
-        let r = risen-next s i at h w.before w.risen in
-        record {
-          few = omega arith;
-          long = length-set values (get_or s (entry_at i) 0) v ∙ w.long;
-          end = sym (ends_next s i at h) ∙ w.end;
-          before = get_or s (entry_at i) 0;
-          risen = r.on;
-          after = λ then. after_on s i at h v e then ∙ w.after then;
-          value = λ node. value_on s i at h values w.before v w.long w.risen e node ∙ w.value node;
-        }
+module _ (entries : List (List ℕ)) (bodies values rest : List ℕ) (i : ℕ) (w : Walked entries bodies values rest i) where
+  module _ (h : i < length entries) where
+    abbrev here : List ℕ
+    here = get_or entries i []
 
-    -- the node that is stored at
-    pub walked-node : get_or s (entry_at i) 0 ≤ 9
-    walked-node = (risen-next s i at h w.before w.risen).within
+    -- the entry, and those after it
+    next : entries_in (drop i entries) rest
+        ≡ record { node = get_or here 0 0; reserved = get_or here 1 0; body = take (length_of here) rest } ∷ entries_in (drop (i + 1) entries) (drop (length_of here) rest)
+    unfolding entries_in
+    next = rw (drop-cons entries i [] h, add-one i)
+
+    total : length_of here + sum_by length_of (drop (i + 1) entries) ≡ length rest
+    total = sym (sum_by-cons length_of here (drop (i + 1) entries)) ∙ rw (add-one i, ← drop-cons entries i [] h) w.whole
 
     -- the body that is read
-    pub walked-within : at + body_length s i ≤ length s
-    walked-within = body-within s i at h w.end
+    pub walked-within : length_of here ≤ length rest
+    walked-within = omega (arith, total)
 
-    pub walked_stop : (n : ℕ) → body_of (get_or s (entry_at i) 0) (part (body_length s i) s at) ≡ Body.Refused n
-        → BodiesRead (entries_of s) (record { fault = Fault.Refused n; values = values })
-    walked_stop n e = record {
-      fault = λ then. after_stop s i at h n e then ∙ w.after then;
-      values = λ z. let y : ◌≡◌ {A = ℕ} 0 1 = cc in absurd (omega arith);
-    }
+    risen : Risen w.before (get_or here 0 0) (entries_in (drop (i + 1) entries) (drop (length_of here) rest))
+    risen = risen-cons w.before _ _ (rw next at w.risen)
 
-  pub walked-done : entry_count s ≤ i → BodiesRead (entries_of s) (record { fault = Fault.None; values = values })
-  unfolding after_bodies value_of
-  walked-done h = record {
-    fault = λ then. (rw (left-none s i at h) at (w.after then));
-    values = λ z node. (rw (left-none s i at h) at (w.value node));
-  }
+    -- the node that is stored at
+    pub walked-node : get_or here 0 0 ≤ 9
+    walked-node = risen.within
+
+    module _ (body : List ℕ) (front : body ≡ take (length_of here) rest) where
+      -- the value stored at its node is what is looked up from here on
+      value_on : (v : ℕ) → body_of (get_or here 0 0) (take (length_of here) rest) ≡ Ok v → (node : ℕ)
+          → value_of node (get_or (set values (get_or here 0 0) v) node 0) (entries_in (drop (i + 1) entries) (drop (length_of here) rest))
+          ≡ value_of node (get_or values node 0) (entries_in (drop i entries) rest)
+      unfolding value_of
+      value_on v e node =
+          elim (ℕ_discrete (get_or here 0 0) node) [
+            | yes z ↦
+                rw (next, eq-eqb (get_or here 0 0) node z, ← z, e, get_or-set_same values (get_or here 0 0) v 0 (omega (arith, walked-node, w.long)))
+                (value-below (entries_in (drop (i + 1) entries) (drop (length_of here) rest)) (get_or here 0 0) (get_or here 0 0) v risen.on (omega arith))
+            | no z ↦ rw (next, ne_eqb (get_or here 0 0) node z, get_or-set_other values (get_or here 0 0) node v 0 (λ y. z (sym y)))
+          ]
+
+      pub walked_next : (v : ℕ) → Ok v ≡ body_of (get_or here 0 0) body → Walked entries bodies (set values (get_or here 0 0) v) (drop (length_of here) rest) (i + 1)
+      unfolding after_bodies after_body
+      walked_next v e =
+          let read = rw front at (sym e) in
+          record {
+            long = rw length-set w.long;
+            whole = simp length-drop (omega (arith, total));
+            before = get_or here 0 0;
+            risen = risen.on;
+            after = λ then. (rw (next, read) at (w.after then));
+            value = λ node. value_on v read node ∙ w.value node;
+          }
+
+      pub walked_stop : (r : Refusal) → Err r ≡ body_of (get_or here 0 0) body → BodiesRead (entries_in entries bodies) (Err r)
+      unfolding after_bodies after_body
+      walked_stop r e then =
+          let read = rw front at (sym e) in
+          sym (rw (next, read) at (w.after then))
+
+  pub walked-done : length entries ≤ i → BodiesRead (entries_in entries bodies) (Ok values)
+  unfolding after_bodies value_of entries_in
+  walked-done h =
+      let none : drop i entries ≡ [] = drop_of_length-le entries h in
+      record {
+        after = λ then. sym (rw none at (w.after then));
+        value = λ node. (rw none at (w.value node));
+      }

@@ -1,28 +1,20 @@
--- What the bodies of a sheet say, as the functions over them hand it on.
-use Rattle.std.specs.Prelude.{◌≡◌, true, List, ℕ, length, get_or}
-use Rattle.model.specs.NodeSheet.{Entry, entry_at, entry_count, entries_of, bodies_end, rising, after_bodies, values_of}
-use Rattle.model.specs.declared.Body.{Body}
-use Rattle.model.specs.declared.Sheet.{Sheet}
-use Rattle.contents.specs.Contents.{Contents}
-use Rattle.nodes.specs.declared.bodies.Bodies.{Bodies}
-use Rattle.nodes.specs.declared.bodies.Fault.{Fault}
+-- What the bodies of a sheet say, as the function over them hands it on.
+use Rattle.std.specs.Prelude.{◌≡◌, true, List, ℕ, Result, Ok, Err, length, get_or, sum_by}
+use Rattle.model.specs.NodeSheet.{Entry, Sheet, rising, after_bodies, values_of}
+use Rattle.model.specs.declared.Refusal.{Refusal}
+use Rattle.contents.specs.Contents.{length_of, entries_in}
 
--- a sheet that neither 11 nor 12 refuses (rules 7.11 and 7.12)
-pub record Readable (sheet : List ℕ) : Type 0 where
-  pub contents : Contents sheet
-  pub end : bodies_end (entry_count sheet) sheet 0 (entry_at (entry_count sheet)) ≡ length sheet
-  pub risen : rising 0 (entries_of sheet) ≡ true
+-- a sheet that neither 11 nor 12 refuses, by its entries and bodies (rules 7.11 and 7.12)
+pub record Readable (entries : List (List ℕ)) (bodies : List ℕ) : Type 0 where
+  pub whole : sum_by length_of entries ≡ length bodies
+  pub risen : rising 0 (entries_in entries bodies) ≡ true
 
-abbrev pub fault_of : Body → Fault
-fault_of (Body.Value v) = Fault.None
-fault_of (Body.Refused n) = Fault.Refused n
+-- no body is at fault, and these are the nodes' values (rule 3.11)
+pub record AllRead (es : List Entry) (values : List ℕ) : Type 0 where
+  pub after : (then : Sheet) → after_bodies es then ≡ then
+  pub value : (node : ℕ) → get_or values node 0 ≡ values_of es node
 
--- a refusal, or where there is none what is said after it
-abbrev pub refused_or : Fault → Sheet → Sheet
-refused_or Fault.None then = then
-refused_or (Fault.Refused n) then = Sheet.Refused n
-
--- the first fault of the entries' bodies, and the nodes' values where there is none (rule 3.11)
-pub record BodiesRead (es : List Entry) (r : Bodies) : Type 0 where
-  pub fault : (then : Sheet) → refused_or r.fault then ≡ after_bodies es then
-  pub values : r.fault ≡ Fault.None → (node : ℕ) → get_or r.values node 0 ≡ values_of es node
+-- the nodes' values, or the first fault of the entries' bodies, whatever would be said after it (rule 3.11)
+abbrev pub BodiesRead : List Entry → Result (List ℕ) Refusal → Type 0
+BodiesRead es (Ok values) = AllRead es values
+BodiesRead es (Err e) = (then : Sheet) → after_bodies es then ≡ Err e

@@ -1,55 +1,51 @@
-// The node sheet: what it says of a port, or the number that it is refused with.
-// The sheet is read in place and in one pass over its bodies; the table of contents, at most 9 entries, is walked more than once.
+// The node sheet: what it says of a port, or why it is refused.
+// The sheet is read in place and in one pass over its bodies; the table of contents, at most 9 entries, is walked more
+// than once.
 #![tactic(auto)]
 
 ghost use Rattle.std.specs.Prelude.{◌≡◌, get_or};
-ghost use Rattle.model.specs.NodeSheet.{entries_of, sector_size_of, abi_for, pages_for, params_of, has_required, sheet_of};
-ghost use Rattle.contents.specs.Contents.{Contents};
+ghost use Rattle.model.specs.NodeSheet.{sector_size_of, abi_for, pages_for, params_of, has_required, sheet_of};
+ghost use Rattle.contents.specs.Contents.{entries_in};
 
-use crate::bodies::{Fault, read_bodies};
-use contents::{has_node, nodes_rise, well_formed};
+use crate::bodies::read_bodies;
+use contents::{Table, well_formed};
 use model::node::{
     BARRIER, DISCARD, DISCARD_SECURE, FLUSH, MODE, PLACES, PROTOCOL, RING_PAGE_ORDER, SECTOR_SIZE,
     SECTORS,
 };
-use model::refusal::{SHEET_MISSING, SHEET_NODES, SHEET_SHAPE};
-use model::{Abi, Pages, Params, SectorSize, Sheet};
+use model::{Abi, Pages, Params, Refusal, SectorSize};
 
 mod bodies;
 
 fn sector_size(v: u64) -> SectorSize
     ensures { result ≡ sector_size_of v }
 {
-    if v == 1024 {
-        return SectorSize::Bytes1024;
+    match v {
+        1024 => SectorSize::Bytes1024,
+        2048 => SectorSize::Bytes2048,
+        4096 => SectorSize::Bytes4096,
+        _ => SectorSize::Bytes512,
     }
-    if v == 2048 {
-        return SectorSize::Bytes2048;
-    }
-    if v == 4096 {
-        return SectorSize::Bytes4096;
-    }
-    SectorSize::Bytes512
 }
 
 // The layout of a protocol.
 fn abi_for(v: u64) -> Abi
     ensures { result ≡ abi_for v }
 {
-    if v == 1 {
-        return Abi::Bits32;
+    match v {
+        1 => Abi::Bits32,
+        _ => Abi::Bits64,
     }
-    Abi::Bits64
 }
 
 // The pages of a page order.
 fn pages_for(v: u64) -> Pages
     ensures { result ≡ pages_for v }
 {
-    if v == 1 {
-        return Pages::Two;
+    match v {
+        1 => Pages::Two,
+        _ => Pages::One,
     }
-    Pages::One
 }
 
 // What the values of the nodes say of a port.
@@ -72,41 +68,27 @@ fn params_of(values: [u64; PLACES]) -> Params
 
 // Whether the nodes that must be present are.
 #[tactic(auto, unfolding(model::specs::NodeSheet::has_required))]
-fn has_required(sheet: &[u8]) -> bool
-    requires { Contents sheet.now }
-    ensures { result ≡ has_required (entries_of sheet.now) }
+fn has_required(table: &Table) -> bool
+    ensures { result ≡ has_required (entries_in table.now.entries.now table.now.bodies.now) }
 {
-    if !has_node(sheet, MODE) {
-        return false;
-    }
-    if !has_node(sheet, SECTOR_SIZE) {
-        return false;
-    }
-    has_node(sheet, SECTORS)
+    table.has_node(MODE) && table.has_node(SECTOR_SIZE) && table.has_node(SECTORS)
 }
 
-// The whole sheet, at any length and content: 11 over all of it, then 12 over all entries, then the bodies in turn, then 15.
-pub fn read_sheet(sheet: &[u8]) -> Sheet
+// The whole sheet, at any length and content: 11 over all of it, then 12 over all entries, then the bodies in turn,
+// then 15.
+pub fn read_sheet(sheet: &[u8]) -> Result<Params, Refusal>
     ensures { result ≡ sheet_of sheet.now }
 {
     if !well_formed(sheet) {
-        return Sheet::Refused(SHEET_SHAPE);
+        return Err(Refusal::SheetShape);
     }
-    if !nodes_rise(sheet) {
-        return Sheet::Refused(SHEET_NODES);
+    let table = Table::of(sheet);
+    if !table.nodes_rise() {
+        return Err(Refusal::SheetNodes);
     }
-    let bodies = read_bodies(sheet);
-    let fault = bodies.fault;
-    match fault {
-        Fault::Refused(n) => {
-            return Sheet::Refused(n);
-        }
-        Fault::None => {
-            if !has_required(sheet) {
-                return Sheet::Refused(SHEET_MISSING);
-            }
-            let values = bodies.values;
-            return Sheet::Read(params_of(values));
-        }
+    let values = read_bodies(&table)?;
+    if !has_required(&table) {
+        return Err(Refusal::SheetMissing);
     }
+    Ok(params_of(values))
 }

@@ -4,16 +4,13 @@ use mathlib.Core.Bool.{false, not}
 use mathlib.Core.List.{List}
 use Prim.Native.Nat.{ℕ, ◌<◌}
 use native.Mathlib.Omega.{arith}
-use borrow.Author.Tests.{eq-eqb, ne_eqb}
 use Rattle.model.specs.Backend.{Backend, view_of, holder_of, with_port, with_tag, with_pointer, started_port, answered_port}
 use Rattle.model.specs.Base.{least}
-use Rattle.model.specs.Complete.{expected_of}
 use Rattle.model.specs.Deeds.{port_after}
 use Rattle.model.specs.Port.{is_busy, set_busy, lowest_free, busy_bits, after}
 use Rattle.model.specs.Ring.{ring_of}
 use Rattle.model.proofs.Refinement.{own-port}
 use Rattle.model.proofs.Ring.{fits}
-use Rattle.model.specs.declared.Plan.{Plan}
 use Rattle.model.specs.declared.Port.{Port}
 use Rattle.model.specs.declared.Tag.{Tag}
 use Rattle.marks.proofs.Marks.{lowest-free, lowest-free-lt, lowest-free-clear}
@@ -68,18 +65,3 @@ module _ (b : Backend) (k : ℕ) (p : Port) (o : Room b k p) where
 
   pub lowest-clear : is_busy p.busy (least busy_bits (λ t. not (is_busy p.busy t))) ≡ false
   lowest-clear = lowest-free-clear (ring_of p.params).size p.busy (fits p.params).marked o.room
-
--- ---- the result that a plan expects, by its operation
-
-module _ (plan : Plan) where
-  pub expects-flush : plan.operation ≡ 3 → 0 ≡ expected_of plan
-  unfolding expected_of
-  expects-flush e = rw (eq-eqb plan.operation 3 e)
-
-  pub expects-discard : (plan.operation ≡ 3 → ⊥) → plan.operation ≡ 5 → 0 ≡ expected_of plan
-  unfolding expected_of
-  expects-discard d e = rw (ne_eqb plan.operation 3 d, eq-eqb plan.operation 5 e)
-
-  pub expects-count : (plan.operation ≡ 3 → ⊥) → (plan.operation ≡ 5 → ⊥) → plan.count ≡ expected_of plan
-  unfolding expected_of
-  expects-count d e = rw (ne_eqb plan.operation 3 d, ne_eqb plan.operation 5 e)

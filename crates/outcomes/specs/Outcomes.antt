@@ -7,10 +7,10 @@ use Rattle.model.specs.Deeds.{port_after}
 use Rattle.model.specs.Port.{in_flight_of, lowest_free}
 use Rattle.model.specs.Ring.{ring_of}
 use Rattle.model.specs.Turn.{port_id, tag_id, serial_of, responded_at, notifies}
+use Rattle.model.specs.declared.Fault.{Fault}
 use Rattle.model.specs.declared.Pair.{Pair}
 use Rattle.model.specs.declared.Plan.{Plan}
 use Rattle.model.specs.declared.Port.{Port}
-use Rattle.model.specs.declared.Status.{Status}
 use Rattle.model.specs.declared.Turned.{Turned}
 use Rattle.memory.specs.Backend.{backend_of, Becomes}
 
@@ -47,7 +47,7 @@ pub record Began (m : List ℕ) (k : ℕ) (p : Port) (q : Pair) (plan : Plan) (r
       left
 
 -- a response at once (rules 5.31 and 5.32)
-pub record Declined (m lent : List ℕ) (k : ℕ) (q : Pair) (n : ℕ) (s : Status) (pages : List ℕ) (r : Turned) (left : List ℕ) : Type 0 where
-  pub rings : pages ≡ responded_at (view_of (backend_of m)) lent k q s
-  pub answer : r ≡ Turned.Answered (port_id k) n s (notifies (view_of (backend_of m)) lent k)
+pub record Declined (m lent : List ℕ) (k : ℕ) (q : Pair) (f : Fault) (pages : List ℕ) (r : Turned) (left : List ℕ) : Type 0 where
+  pub rings : pages ≡ responded_at (view_of (backend_of m)) lent k q f.status
+  pub answer : r ≡ Turned.Answered (port_id k) f (notifies (view_of (backend_of m)) lent k)
   pub memory : Becomes m (with_pointer (with_port (backend_of m) k (answered_port ((backend_of m).port k))) (port_after k)) left

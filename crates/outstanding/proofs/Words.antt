@@ -1,19 +1,23 @@
 -- A guest's memory: the outstanding requests that its words say, where one of them stands, and what a put and an end make of the words. Assumes nothing.
 use mathlib.Core.Path.{◌≡◌, refl, sym, ap, ◌∙◌}
 use mathlib.Core.Logic.{◌≢◌}
-use mathlib.Core.Bool.{Bool, true, false}
+use mathlib.Core.Bool.{Bool, true, false, not, cond, ◌||◌}
 use mathlib.Core.List.{List, [], ◌∷◌, ◌++◌}
 use Prim.Native.Nat.{ℕ, zero, suc, ◌+◌, ◌-◌, ◌%◌, ◌^◌, ◌≤◌, ◌<◌, min}
 use native.Mathlib.Decide.{dec_lt, ℕ_discrete}
 use native.Mathlib.Omega.{arith}
 use lib.ListN.{length, get_or, set, take, length-append, length-set, get_or-append}
 use lib.Seq.{ext_get_or, get_or-append-add, get_or-set_same, get_or-set_other, get_or-take, length-take-le}
-use borrow.Author.Tests.{lt-ltb, le-ltb}
+use borrow.Author.Tests.{lt-ltb, le-ltb, ne_eqb}
+use lib.Dec.{ltb}
+use Rattle.std.proofs.Common.{◌&&◌, eqb, drop, length-take, length-drop, get_or-drop}
+use Rattle.std.proofs.lemmas.Slice.Zip.{length-zip, get_or-zip}
+use Rattle.std.specs.Prelude.{Some, None}
+use Rattle.std.specs.List.{list_any, position_or_len, position, zip}
 use Rattle.model.specs.Base.{least}
 use Rattle.model.specs.Port.{after}
 use Rattle.model.specs.declared.Pair.{Pair}
-use Rattle.model.proofs.Base.{least-before, least-none, least-found}
-use Rattle.guest.specs.Guest.{most_outstanding, no_pair, place_of, has, without}
+use Rattle.guest.specs.Guest.{found, most_outstanding, no_pair, place_of, has, same_id, same_pair, without}
 use Rattle.outstanding.specs.Words.{put_at, collected_at, count_at, ids_at, operations_at, guest_words, index_in, count_in, pair_at, pairs_in, guest_of, set_pair, words_put, words_ended}
 
 -- ---- the outstanding
@@ -48,49 +52,86 @@ pub outstanding-is : (w : List ℕ) → (guest_of w).outstanding ≡ pairs_in w 
 unfolding guest_of
 outstanding-is w = refl
 
-pub length-outstanding : (w : List ℕ) → length (guest_of w).outstanding ≡ count_in w
-length-outstanding w = ap (λ (l : List Pair). length l) (outstanding-is w) ∙ length_pairs w (count_in w)
+pub length_outstanding : (w : List ℕ) → length (guest_of w).outstanding ≡ count_in w
+length_outstanding w = ap (λ (l : List Pair). length l) (outstanding-is w) ∙ length_pairs w (count_in w)
 
--- ---- where one of them stands
+-- ---- where one of them stands: the definition's least index is the place that a walk over a list finds
 
-module _ (f : Pair → Bool) (w : List ℕ) (n : ℕ) where
-  abbrev passes : ℕ → Bool
-  passes i = f (get_or (pairs_in w n) i no_pair)
+any_step : (b c : Bool) (m k : ℕ) → c ≡ ltb m k → b || c ≡ ltb (cond (not b) (1 + m) 0) (suc k)
+any_step true c m k e = sym (lt-ltb 0 (suc k) (omega arith))
+any_step false c m k e =
+    e ∙ elim (dec_lt m k) [ yes l ↦ rw (lt-ltb m k l, lt-ltb (1 + m) (suc k) (omega arith)) | no l ↦ rw (le-ltb m k (omega (arith, l)), le-ltb (1 + m) (suc k) (omega (arith, l))) ]
 
-  -- the first that passes
-  place_here : (i : ℕ) → i < n → f (pair_at w i) ≡ true → ((j : ℕ) → j < i → f (pair_at w j) ≡ false) → place_of f (pairs_in w n) ≡ i
+any-position : {X : Type 0} (t : X → Bool) (xs : List X) → list_any t xs ≡ ltb (position_or_len t xs) (length xs)
+any-position t [] = refl
+any-position t (x ∷ xs) = any_step (t x) (list_any t xs) (position_or_len t xs) (length xs) (any-position t xs)
+
+least_step : (b : Bool) (m k : ℕ) → m ≡ k → cond (not b) (1 + m) 0 ≡ cond b 0 (suc k)
+least_step true m k e = refl
+least_step false m k e = omega (arith, e)
+
+position-least : {X : Type 0} (t : X → Bool) (d : X) (xs : List X) (n : ℕ) (f : ℕ → Bool) → length xs ≡ n → ((i : ℕ) → i < n → t (get_or xs i d) ≡ f i)
+    → position_or_len t xs ≡ least n f
+unfolding least
+position-least t d [] zero f e h = refl
+position-least t d [] (suc n) f e h = absurd (omega arith)
+position-least t d (x ∷ xs) zero f e h = absurd (omega arith)
+position-least t d (x ∷ xs) (suc n) f e h =
+    rw (h 0 (omega arith))
+    (least_step (f 0) (position_or_len t xs) (least n (λ i. f (suc i))) (position-least t d xs n (λ i. f (suc i)) (omega arith) (λ i l. h (suc i) (omega arith))))
+
+-- a list whose elements pass where the pairs of the words do
+module _ {X : Type 0} (t : X → Bool) (d : X) (xs : List X) (f : Pair → Bool) (w : List ℕ) (long : length xs ≡ count_in w)
+    (same : (i : ℕ) → i < count_in w → t (get_or xs i d) ≡ f (pair_at w i)) where
+  abbrev l : List Pair
+  l = (guest_of w).outstanding
+
+  place-is : position_or_len t xs ≡ place_of f l
   unfolding place_of
-  place_here i h t b =
-      rw (length_pairs w n)
-      (least-found n passes i h (ap f (get_d-pairs w n i h) ∙ t) (λ j k. ap f (get_d-pairs w n j (omega arith)) ∙ b j k))
+  place-is =
+      position-least t d xs (length l) (λ i. f (get_or l i no_pair)) (long ∙ sym (length_outstanding w)) (λ i h.
+      let h' : i < count_in w = omega (arith, length_outstanding w) in
+      same i h' ∙ ap f (sym (ap (λ (ps : List Pair). get_or ps i no_pair) (outstanding-is w) ∙ get_d-pairs w (count_in w) i h')))
 
-  -- none does
-  place_end : ((j : ℕ) → j < n → f (pair_at w j) ≡ false) → place_of f (pairs_in w n) ≡ n
-  unfolding place_of
-  place_end b = rw (length_pairs w n) (least-none n passes (λ j h. ap f (get_d-pairs w n j h) ∙ b j h))
+  tests : ltb (position_or_len t xs) (length xs) ≡ has f l
+  tests = λ z. ltb (place-is z) ((long ∙ sym (length_outstanding w)) z)
 
-module _ (f : Pair → Bool) (w : List ℕ) where
-  pub place_found : (i : ℕ) → i < count_in w → f (pair_at w i) ≡ true → ((j : ℕ) → j < i → f (pair_at w j) ≡ false) → place_of f (guest_of w).outstanding ≡ i
-  place_found i h t b = rw (outstanding-is w) (place_here f w (count_in w) i h t b)
+  pub has-any : list_any t xs ≡ has f l
+  has-any = any-position t xs ∙ tests
 
-  pub place_none : ((j : ℕ) → j < count_in w → f (pair_at w j) ≡ false) → place_of f (guest_of w).outstanding ≡ count_in w
-  place_none b = rw (outstanding-is w) (place_end f w (count_in w) b)
+  pub found-position : position t xs ≡ found f l
+  found-position = λ z. cond (tests z) (Some (place-is z)) None
 
-  pub has-found : (i : ℕ) → i < count_in w → f (pair_at w i) ≡ true → ((j : ℕ) → j < i → f (pair_at w j) ≡ false) → has f (guest_of w).outstanding ≡ true
-  has-found i h t b = rw (place_found i h t b, length-outstanding w) (lt-ltb i (count_in w) h)
+-- a run of the words
+length-run : (w : List ℕ) (a k : ℕ) → a + k ≤ length w → length (take k (drop a w)) ≡ k
+length-run w a k l = omega (arith, length-take k (drop a w), length-drop a w)
 
-  pub has-none : ((j : ℕ) → j < count_in w → f (pair_at w j) ≡ false) → has f (guest_of w).outstanding ≡ false
-  has-none b = rw (place_none b, length-outstanding w) (le-ltb (count_in w) (count_in w) (omega arith))
+run-word : (w : List ℕ) (a k i : ℕ) → i < k → get_or (take k (drop a w)) i 0 ≡ get_or w (a + i) 0
+run-word w a k i l = get_or-take k (drop a w) i 0 l ∙ get_or-drop a w i 0
 
--- a place that is not past the last is one of theirs
-pub place-lt : (f : Pair → Bool) (l : List Pair) → place_of f l ≢ length l → place_of f l < length l
-unfolding place_of
-place-lt f l d = go (dec_lt (least (length l) (λ i. f (get_or l i no_pair))) (length l))
-  where
-    go : Dec (least (length l) (λ i. f (get_or l i no_pair)) < length l) → least (length l) (λ i. f (get_or l i no_pair)) < length l
-    go (yes h) = h
-    go (no h) =
-        absurd (d (least-none (length l) (λ i. f (get_or l i no_pair)) (λ i k. least-before (length l) (λ j. f (get_or l j no_pair)) i (omega (arith, h)))))
+eqb-swap : (m n : ℕ) → eqb m n ≡ eqb n m
+eqb-swap m n = elim (ℕ_discrete m n) [ yes e ↦ rw e | no d ↦ rw (ne_eqb m n d, ne_eqb n m (λ e. d (sym e))) ]
+
+module _ (w : List ℕ) (sized : length w ≡ guest_words) where
+  -- among their ids
+  pub has-ids : (k id : ℕ) → k ≡ count_in w → list_any (λ y. eqb y id) (take k (drop ids_at w)) ≡ has (same_id id) (guest_of w).outstanding
+  unfolding pair_at
+  has-ids k id e =
+      has-any (λ y. eqb y id) 0 (take k (drop ids_at w)) (same_id id) w (length-run w ids_at k (omega arith) ∙ e)
+      (λ i l. ap (λ (v : ℕ). eqb v id) (run-word w ids_at k i (omega arith)) ∙ eqb-swap (get_or w (ids_at + i) 0) id)
+
+  -- among their ids and operations side by side
+  pub found-pairs : (j k : ℕ) (q : Pair) → j ≡ count_in w → k ≡ count_in w
+      → position (λ (p : ℕ × ℕ). eqb q.id p.0 && eqb q.operation p.1) (zip (take j (drop ids_at w)) (take k (drop operations_at w))) ≡ found (same_pair q) (guest_of w).outstanding
+  unfolding pair_at
+  found-pairs j k q e f =
+      let ids = take j (drop ids_at w) in
+      let operations = take k (drop operations_at w) in
+      let ids-long = length-run w ids_at j (omega arith) in
+      let operations-long = length-run w operations_at k (omega arith) in
+      let t = λ (p : ℕ × ℕ). eqb q.id p.0 && eqb q.operation p.1 in
+      found-position t (0, 0) (zip ids operations) (same_pair q) w (omega (arith, length-zip ids operations))
+      (λ i l. ap t (get_or-zip ids operations i (0, 0) (omega arith) (omega arith) ∙ λ z. (run-word w ids_at j i (omega arith) z, run-word w operations_at k i (omega arith) z)))
 
 -- ---- the words with another pair
 

@@ -4,16 +4,17 @@
 #![tactic(auto)]
 
 ghost use Rattle.std.specs.Prelude.{◌≡◌, ◌<◌, ◌≤◌, length};
-ghost use Rattle.guest.specs.Guest.{most_outstanding, place_of, has, same_id, same_pair};
-ghost use Rattle.outstanding.specs.Words.{guest_words, pair_at, guest_of, set_pair, words_put, words_ended};
+ghost use Rattle.guest.specs.Guest.{most_outstanding, found, has, same_id, same_pair};
+ghost use Rattle.outstanding.specs.Words.{count_at, index_in, guest_of, set_pair, words_put, words_ended};
 
 use layout::PAGE_SLOTS;
 use model::Pair;
 use model::buffer::GUEST_WORDS;
 
-const PUT: usize = 0;
+// The words of the two indices.
+pub const PUT: usize = 0;
 
-const COLLECTED: usize = 1;
+pub const COLLECTED: usize = 1;
 
 const COUNT: usize = 2;
 
@@ -27,82 +28,38 @@ pub const MOST: usize = PAGE_SLOTS as usize;
 // The values of an index: its word is taken modulo that.
 const VALUES_32: u64 = 4294967296;
 
-fn seen(w: &[u64]) {}
-
-// No work: what it ensures is how a caller learns how many words there are.
-pub fn known(w: &[u64; GUEST_WORDS])
-    ensures { length w.now ≡ guest_words }
+// An index: at PUT that of the next request, at COLLECTED that of the next response.
+pub fn index_at(w: &[u64; GUEST_WORDS], at: usize) -> u32
+    requires { at < count_at }
+    ensures { result ≡ index_in w.now at }
 {
-    seen(w);
-}
-
-// The index of the next request.
-#[tactic(auto, unfolding(crate::specs::Words::guest_of))]
-pub fn put_index(w: &[u64; GUEST_WORDS]) -> u32
-    ensures { result ≡ (guest_of w.now).put }
-{
-    (w[PUT] % VALUES_32) as u32
-}
-
-// The index of the next response.
-#[tactic(auto, unfolding(crate::specs::Words::guest_of))]
-pub fn collect_index(w: &[u64; GUEST_WORDS]) -> u32
-    ensures { result ≡ (guest_of w.now).collected }
-{
-    (w[COLLECTED] % VALUES_32) as u32
+    (w[at] % VALUES_32) as u32
 }
 
 // How many requests are outstanding.
+#[tactic(auto, using(crate::proofs::Words::length_outstanding))]
 pub fn outstanding(w: &[u64; GUEST_WORDS]) -> usize
     ensures { (result ≡ length (guest_of w.now).outstanding) × (result ≤ most_outstanding) }
 {
-    let n = w[COUNT];
-    if n < MOST as u64 {
-        return n as usize;
-    }
-    MOST
+    w[COUNT].min(MOST as u64) as usize
 }
 
 // Whether one of them has this id.
 pub fn has_id(w: &[u64; GUEST_WORDS], id: u64) -> bool
     ensures { result ≡ has (same_id id) (guest_of w.now).outstanding }
 {
-    let n = outstanding(w);
-    let mut i = 0;
-    while i < n {
-        if w[IDS + i] == id {
-            return true;
-        }
-        i += 1;
-    }
-    false
+    w[IDS..IDS + outstanding(w)].contains(&id)
 }
 
-// Whether the one at place i has this id and operation.
-#[tactic(auto, unfolding(crate::specs::Words::pair_at))]
-fn is_pair(w: &[u64; GUEST_WORDS], i: usize, pair: Pair) -> bool
-    requires { i < most_outstanding }
-    ensures { result ≡ same_pair pair (pair_at w.now i) }
-{
-    if pair.id != w[IDS + i] {
-        return false;
-    }
-    pair.operation as u64 == w[OPERATIONS + i]
-}
-
-// Where the first with this id and operation stands; their number where there is none.
-pub fn place_of(w: &[u64; GUEST_WORDS], pair: Pair) -> usize
-    ensures { result ≡ place_of (same_pair pair) (guest_of w.now).outstanding }
+// Where the first with this id and operation stands, if there is one.
+pub fn place_of(w: &[u64; GUEST_WORDS], pair: Pair) -> Option<usize>
+    ensures { result ≡ found (same_pair pair) (guest_of w.now).outstanding }
 {
     let n = outstanding(w);
-    let mut i = 0;
-    while i < n {
-        if is_pair(w, i, pair) {
-            return i;
-        }
-        i += 1;
-    }
-    n
+    w[IDS..IDS + n]
+        .iter()
+        .zip(&w[OPERATIONS..OPERATIONS + n])
+        .position(|(id, operation)| pair.id == *id && pair.operation as u64 == *operation)
 }
 
 #[tactic(auto, unfolding(crate::specs::Words::set_pair))]
@@ -120,7 +77,7 @@ pub fn add(w: &mut [u64; GUEST_WORDS], id: u64, operation: u64)
     ensures { w.new ≡ words_put w.old (record { id = id; operation = operation }) }
 {
     let n = outstanding(w);
-    let next = ring::next_index(put_index(w));
+    let next = ring::next_index(index_at(w, PUT));
     w[PUT] = next as u64;
     w[COUNT] = n as u64 + 1;
     set_pair(w, n, id, operation);
@@ -134,7 +91,7 @@ pub fn end(w: &mut [u64; GUEST_WORDS], i: usize)
     let last = outstanding(w) - 1;
     let id = w[IDS + last];
     let operation = w[OPERATIONS + last];
-    let next = ring::next_index(collect_index(w));
+    let next = ring::next_index(index_at(w, COLLECTED));
     w[COLLECTED] = next as u64;
     w[COUNT] = last as u64;
     set_pair(w, i, id, operation);

@@ -1,5 +1,6 @@
-// Numbers of sectors against the sectors of a disk: a request's always have 512 bytes, the disk's may have 1,024, 2,048 or 4,096.
-ghost use Rattle.std.specs.Prelude.{◌&&◌, ◌≡◌, eqb};
+// Numbers of sectors against the sectors of a disk: a request's always have 512 bytes, the disk's may have 1,024, 2,048
+// or 4,096.
+ghost use Rattle.std.specs.Prelude.{◌&&◌, ◌≡◌};
 ghost use Rattle.model.specs.Checks.{unit_of, is_aligned};
 
 use model::SectorSize;
@@ -22,32 +23,23 @@ pub fn unit_of(sector: SectorSize) -> u64
     }
 }
 
-fn are_zero(x: u64, y: u64) -> bool
-    ensures { result ≡ eqb x 0 && eqb y 0 }
+// Whether a number is a multiple of that. Each sector size divides by a constant, so no divisor can be 0, and none is a
+// variable, by which a division is slow.
+#[tactic(auto, unfolding(model::specs::Checks::is_aligned))]
+fn is_aligned(sector: SectorSize, x: u64) -> bool
+    ensures { result ≡ is_aligned sector x }
 {
-    if x != 0 {
-        return false;
+    match sector {
+        SectorSize::Bytes512 => true,
+        SectorSize::Bytes1024 => x % IN_1024 == 0,
+        SectorSize::Bytes2048 => x % IN_2048 == 0,
+        SectorSize::Bytes4096 => x % IN_4096 == 0,
     }
-    y == 0
 }
 
-// Whether two numbers are multiples of that: a range's start and count, or a segment's two ends. Each sector size divides by a constant, so no divisor can be 0.
-#[tactic(auto, unfolding(model::specs::Checks::is_aligned))]
+// Whether two numbers are: a range's start and count, or a segment's two ends.
 pub fn are_aligned(sector: SectorSize, x: u64, y: u64) -> bool
     ensures { result ≡ is_aligned sector x && is_aligned sector y }
 {
-    match sector {
-        SectorSize::Bytes512 => {
-            return true;
-        }
-        SectorSize::Bytes1024 => {
-            return are_zero(x % IN_1024, y % IN_1024);
-        }
-        SectorSize::Bytes2048 => {
-            return are_zero(x % IN_2048, y % IN_2048);
-        }
-        SectorSize::Bytes4096 => {
-            return are_zero(x % IN_4096, y % IN_4096);
-        }
-    }
+    is_aligned(sector, x) && is_aligned(sector, y)
 }

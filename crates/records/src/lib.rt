@@ -1,7 +1,6 @@
 // Backend memory by records: a port whole, and what is kept of a started request. Where each word stands is `memory`'s.
 #![tactic(auto)]
 
-mod fields;
 mod port;
 mod tag;
 mod words;

@@ -1,17 +1,14 @@
 // A port's words, all of them: the port whole.
-ghost use Rattle.std.specs.Prelude.{◌≡◌, ◌<◌};
-ghost use Rattle.model.specs.Buffers.{ports};
+ghost use Rattle.std.specs.Prelude.{◌≡◌};
 ghost use Rattle.model.specs.Backend.{with_port};
 ghost use Rattle.memory.specs.Backend.{backend_of, Becomes};
 ghost use Rattle.memory.specs.Words.{words_of};
 
-use crate::fields::{abi_word, flag_word, pages_word, sector_of, sector_word};
-use crate::words::{flag, put_run};
+use crate::words::put_run;
 use memory::{
-    PORT_WORDS, STRIDE, WORDS, abi, busy_marks, consumed, known, pages, produced, state,
-    state_word, word,
+    Field, PORT_WORDS, STRIDE, WORDS, abi, busy_marks, consumed, field_at, pages, produced, state,
 };
-use model::{Params, Port};
+use model::{Params, Port, PortIndex};
 
 // Which of a port's words is which, of those that are not read singly.
 const WRITABLE: usize = 1;
@@ -28,35 +25,29 @@ const SECTOR_SIZE: usize = 6;
 
 const SECTORS: usize = 7;
 
-fn params(m: &[u64; WORDS], k: usize) -> Params
-    requires { k < ports }
-    ensures { result ≡ ((backend_of m.now).port k).params }
+#[tactic(auto, using(memory::proofs::Backend::records), unfolding(memory::specs::Words::params_from, memory::specs::Words::port_from, memory::specs::Words::port_at))]
+fn params(m: &[u64; WORDS], k: PortIndex) -> Params
+    ensures { result ≡ ((backend_of m.now).port k.index).params }
 {
-    let sector = sector_of(word(m, k, SECTOR_SIZE));
-    let abi = abi(m, k);
-    let pages = pages(m, k);
     Params {
-        writable: flag(m, k, WRITABLE),
-        barrier: flag(m, k, BARRIER),
-        flush: flag(m, k, FLUSH),
-        discard: flag(m, k, DISCARD),
-        secure: flag(m, k, SECURE),
-        sector: sector,
-        sectors: word(m, k, SECTORS),
-        abi: abi,
-        pages: pages,
+        sector: field_at(m, k, SECTOR_SIZE),
+        abi: abi(m, k),
+        pages: pages(m, k),
+        writable: field_at(m, k, WRITABLE),
+        barrier: field_at(m, k, BARRIER),
+        flush: field_at(m, k, FLUSH),
+        discard: field_at(m, k, DISCARD),
+        secure: field_at(m, k, SECURE),
+        sectors: field_at(m, k, SECTORS),
     }
 }
 
-pub fn port_at(m: &[u64; WORDS], k: usize) -> Port
-    requires { k < ports }
-    ensures { result ≡ (backend_of m.now).port k }
+pub fn port_at(m: &[u64; WORDS], k: PortIndex) -> Port
+    ensures { result ≡ (backend_of m.now).port k.index }
 {
-    let state = state(m, k);
-    let params = params(m, k);
     Port {
-        state: state,
-        params: params,
+        state: state(m, k),
+        params: params(m, k),
         consumed: consumed(m, k),
         produced: produced(m, k),
         busy: busy_marks(m, k),
@@ -66,33 +57,25 @@ pub fn port_at(m: &[u64; WORDS], k: usize) -> Port
 fn words_of(p: Port) -> [u64; PORT_WORDS]
     ensures { result ≡ words_of p }
 {
-    let state = p.state;
-    let params = p.params;
-    let sector = params.sector;
-    let abi = params.abi;
-    let pages = params.pages;
     [
-        state_word(state),
-        flag_word(params.writable),
-        flag_word(params.barrier),
-        flag_word(params.flush),
-        flag_word(params.discard),
-        flag_word(params.secure),
-        sector_word(sector),
-        params.sectors,
-        abi_word(abi),
-        pages_word(pages),
-        p.consumed as u64,
-        p.produced as u64,
-        p.busy,
+        p.state.word(),
+        p.params.writable.word(),
+        p.params.barrier.word(),
+        p.params.flush.word(),
+        p.params.discard.word(),
+        p.params.secure.word(),
+        p.params.sector.word(),
+        p.params.sectors.word(),
+        p.params.abi.word(),
+        p.params.pages.word(),
+        p.consumed.word(),
+        p.produced.word(),
+        p.busy.word(),
     ]
 }
 
-pub fn set_port(m: &mut [u64; WORDS], k: usize, p: Port)
-    requires { k < ports }
-    ensures { Becomes m.old (with_port (backend_of m.old) k p) m.new }
+pub fn set_port(m: &mut [u64; WORDS], k: PortIndex, p: Port)
+    ensures { Becomes m.old (with_port (backend_of m.old) k.index p) m.new }
 {
-    known(m);
-    let w = words_of(p);
-    put_run(m, STRIDE * k, &w);
+    put_run(m, STRIDE * k.get(), &words_of(p));
 }

@@ -1,97 +1,48 @@
-// The counters of all ports, as the host's own words: each answer is handed over to those of the port that it names.
-ghost use Rattle.std.specs.Prelude.{◌+◌, ◌≤◌};
-
-use lines::output;
+// The counters of all ports, as the host's own records: each answer is handed over to those of the port that it names.
 use model::buffer::{MANY_WORDS, PORTS};
-use model::{Completed, Counters, Turned};
-use std::io;
-use std::io::Write;
+use model::{Completed, Counters, PortId, Refusal, Turned};
 
-const PORT_COUNT: u64 = PORTS as u64;
+pub const ZERO: Counters = Counters {
+    taken: 0,
+    okay: 0,
+    error: 0,
+    unsupported: 0,
+};
 
-// Four numbers to a port.
-pub const METERS: usize = 4 * PORTS;
+#[derive(Drop)]
+pub struct PortCounters([Counters; PORTS]);
 
-// Where a port's counters begin, whatever the number.
-fn place(port: u64) -> usize
-    ensures { result + 4 ≤ 32 }
-{
-    (port % PORT_COUNT * 4) as usize
-}
-
-fn counters_at(meters: &[u64; METERS], at: usize) -> Counters
-    requires { at + 4 ≤ 32 }
-{
-    Counters {
-        taken: meters[at],
-        okay: meters[at + 1],
-        error: meters[at + 2],
-        unsupported: meters[at + 3],
+impl PortCounters {
+    pub fn new() -> PortCounters {
+        PortCounters([ZERO; PORTS])
     }
-}
 
-fn put_counters(meters: &mut [u64; METERS], at: usize, counters: Counters)
-    requires { at + 4 ≤ 32 }
-{
-    meters[at] = counters.taken;
-    meters[at + 1] = counters.okay;
-    meters[at + 2] = counters.error;
-    meters[at + 3] = counters.unsupported;
-}
-
-// The port that a turn's answer names. One that names none raises nothing, so any port's counters will do.
-fn turned_port(turned: Turned) -> u64 {
-    match turned {
-        Turned::Refused(_) => 0,
-        Turned::Idle => 0,
-        Turned::Overrun(port) => port.0 as u64,
-        Turned::Started(port, _, _, _) => port.0 as u64,
-        Turned::Answered(port, _, _, _) => port.0 as u64,
+    // Those of a port, whatever its number.
+    pub fn of(&mut self, port: PortId) -> &mut Counters {
+        &mut self.0[port.0 as usize % PORTS]
     }
-}
 
-fn completed_port(completed: Completed) -> u64 {
-    match completed {
-        Completed::Refused(_) => 0,
-        Completed::Done(port, _, _) => port.0 as u64,
+    pub fn after_turn(&mut self, turned: Result<Turned, Refusal>) {
+        let port = match turned {
+            Ok(Turned::Overrun(port) | Turned::Started(port, ..) | Turned::Answered(port, ..)) =>
+                port,
+            // What names no port raises nothing.
+            Ok(Turned::Idle) | Err(_) => return,
+        };
+        let counters = self.of(port);
+        *counters = counter_cases::after_turn(*counters, turned);
     }
-}
 
-pub fn after_turn(meters: &mut [u64; METERS], turned: Turned) {
-    let at = place(turned_port(turned));
-    let after = counter_cases::after_turn(counters_at(meters, at), turned);
-    put_counters(meters, at, after);
-}
+    pub fn after_completion(&mut self, completed: Result<Completed, Refusal>) {
+        if let Ok(done) = completed {
+            let counters = self.of(done.port);
+            *counters = counter_cases::after_completion(*counters, completed);
+        }
+    }
 
-pub fn after_completion(meters: &mut [u64; METERS], completed: Completed) {
-    let at = place(completed_port(completed));
-    let after = counter_cases::after_completion(counters_at(meters, at), completed);
-    put_counters(meters, at, after);
-}
-
-// What the call returned, and the words that it left, go to the counters of the port that was named.
-pub fn after_many(
-    meters: &mut [u64; METERS],
-    port: u64,
-    returned: u32,
-    answer: &[u64; MANY_WORDS],
-) {
-    let at = place(port);
-    let after = counters::after_many(counters_at(meters, at), returned, answer);
-    put_counters(meters, at, after);
-}
-
-pub fn show<W: Write>(out: &mut W, meters: &[u64; METERS], port: u64) -> io::Result<()> {
-    output::text(out, b"meter")?;
-    output::counters(out, counters_at(meters, place(port)))
-}
-
-pub fn zero(meters: &mut [u64; METERS], port: u64) {
-    let new = Counters {
-        taken: 0,
-        okay: 0,
-        error: 0,
-        unsupported: 0,
-    };
-    put_counters(meters, place(port), new);
+    // What the call returned, and the words that it left, go to the counters of the port that was named.
+    pub fn after_many(&mut self, port: PortId, returned: u32, answer: &[u64; MANY_WORDS]) {
+        let counters = self.of(port);
+        *counters = counters::after_many(*counters, returned, answer);
+    }
 }

@@ -7,18 +7,18 @@ use Prim.Native.Nat.{ℕ, ◌^◌, ◌<◌, ◌≤◌}
 use native.Mathlib.Decide.{ℕ_discrete}
 use native.Mathlib.Omega.{arith}
 use lib.ListN.{length}
+use Rattle.std.specs.Prelude.{Ok}
 use Rattle.model.specs.Ring.{Layout, request_of}
 use Rattle.model.specs.Checks.{moves_nothing, total_sectors, count_of, unknown_operation, wrong_amount, wrong_segment, operation_checks, segment_checks, checks}
 use Rattle.model.specs.Complete.{expected_of}
 use Rattle.model.specs.Plan.{plan_of, verdict_of}
 use Rattle.model.specs.declared.Params.{Params}
 use Rattle.model.specs.declared.Plan.{Plan}
-use Rattle.model.specs.declared.Verdict.{Verdict}
 use Rattle.segments.proofs.Slot.{length-segments, within-total}
 use Rattle.checks.proofs.Steps.{none-fails, all-passed}
 use Rattle.verdicts.proofs.Verdict.{few-segments}
 
-module _ (q : Params) (l : Layout) (grants slot : List ℕ) (plan : Plan) (e : verdict_of q grants (request_of l slot) ≡ Verdict.Start plan) where
+module _ (q : Params) (l : Layout) (grants slot : List ℕ) (plan : Plan) (e : verdict_of q grants (request_of l slot) ≡ Ok plan) where
   pub known : unknown_operation (request_of l slot) ≡ false
   unfolding checks operation_checks
   known = none-fails (checks q grants (request_of l slot)) 0 (all-passed q grants (request_of l slot) plan e).0

@@ -6,11 +6,10 @@ use mathlib.Core.List.{List}
 use Prim.Native.Nat.{ℕ, ◌%◌}
 use lib.Dec.{eqb}
 use Rattle.model.specs.Ring.{Request}
-use Rattle.model.specs.Checks.{unknown_operation, feature_off, read_only, wrong_amount, operation_checks, checks, first_failed}
+use Rattle.std.specs.Prelude.{Ok, Err}
+use Rattle.model.specs.Checks.{unknown_operation, feature_off, read_only, wrong_amount, operation_checks, Checked, checks, first_failed}
 use Rattle.model.specs.Plan.{plan_of, decided, verdict_of}
-use Rattle.model.specs.declared.Checked.{Checked}
 use Rattle.model.specs.declared.Params.{Params}
-use Rattle.model.specs.declared.Verdict.{Verdict}
 use Rattle.model.proofs.Base.{and-false}
 use Rattle.request.specs.FlagIgnored.{Alike, FlagUnchecked, FlagIgnored}
 use Rattle.verdicts.proofs.Verdict.{discard-plan, discard-checked}
@@ -30,12 +29,12 @@ module _ (p : Params) (grants : List ℕ) (r s : Request) (k : Alike r s) where
   same-checked = discard-checked p r one grants ∙ rw (same_operation, k.start, k.sectors) (sym (discard-checked p s other grants))
 
   module _ (off : p.secure ≡ false) where
-    same-plan : Verdict.Start (plan_of p r) ≡ Verdict.Start (plan_of p s)
+    same-plan : plan_of p r ≡ plan_of p s
     same-plan = discard-plan p r one ∙ rw (off, and-false (eqb (r.flag % 2) 1), k.start, k.sectors, and-false (eqb (s.flag % 2) 1)) refl ∙ sym (discard-plan p s other)
 
     same-decided : (c : Checked) → decided (plan_of p r) c ≡ decided (plan_of p s) c
-    same-decided Checked.Passed = same-plan
-    same-decided (Checked.Refused n t) = refl
+    same-decided (Ok passed) = rw same-plan
+    same-decided (Err f) = refl
 
     same-verdict : verdict_of p grants r ≡ verdict_of p grants s
     unfolding verdict_of

@@ -6,6 +6,7 @@ use mathlib.Core.List.{List, [], ◌∷◌}
 use Prim.Native.Nat.{ℕ, ◌+◌, ◌%◌, ◌∣◌}
 use native.Mathlib.Decide.{ℕ_discrete}
 use native.Mathlib.Nat.{dvd-add, dvd-sub, dvd_of_mod-eq-zero, mod-eq-zero_of_dvd}
+use Rattle.std.specs.Prelude.{Ok}
 use Rattle.model.specs.Base.{all}
 use Rattle.model.specs.Ring.{Layout, Request, segments_of, request_of}
 use Rattle.model.specs.Checks.{unit_of, is_aligned, is_on_boundaries, sectors_in, count_of, data_segments, unaligned, operation_checks, segment_checks, disk_checks, checks}
@@ -14,7 +15,6 @@ use Rattle.model.specs.declared.Params.{Params}
 use Rattle.model.specs.declared.Plan.{Plan}
 use Rattle.model.specs.declared.SectorSize.{SectorSize}
 use Rattle.model.specs.declared.Segment.{Segment}
-use Rattle.model.specs.declared.Verdict.{Verdict}
 use Rattle.model.proofs.Base.{clash, and_left, and_right}
 use Rattle.checks.proofs.Steps.{none-fails, all-passed}
 use Rattle.request.specs.WholeSectors.{is_whole, WholeSectors}
@@ -47,7 +47,7 @@ module _ (z : SectorSize) where
 
 -- ---- a request that starts
 
-module _ (p : Params) (l : Layout) (grants slot : List ℕ) (plan : Plan) (e : verdict_of p grants (request_of l slot) ≡ Verdict.Start plan) where
+module _ (p : Params) (l : Layout) (grants slot : List ℕ) (plan : Plan) (e : verdict_of p grants (request_of l slot) ≡ Ok plan) where
   abbrev r : Request
   r = request_of l slot
 

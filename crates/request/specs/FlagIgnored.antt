@@ -14,8 +14,10 @@ pub record Alike (r s : Request) : Type 0 where
 
 -- both fail the same check, or none
 abbrev pub FlagUnchecked : Type 0
-FlagUnchecked = (p : Params) (grants : List ℕ) (r s : Request) → Alike r s → first_failed (checks p grants r) ≡ first_failed (checks p grants s)
+FlagUnchecked = (p : Params) (grants : List ℕ) (r s : Request) → Alike r s
+    → first_failed (checks p grants r) ≡ first_failed (checks p grants s)
 
 -- and where discard-secure is 0, they have the same plan too
 abbrev pub FlagIgnored : Type 0
-FlagIgnored = (p : Params) (grants : List ℕ) (r s : Request) → Alike r s → p.secure ≡ false → verdict_of p grants r ≡ verdict_of p grants s
+FlagIgnored = (p : Params) (grants : List ℕ) (r s : Request) → Alike r s → p.secure ≡ false
+    → verdict_of p grants r ≡ verdict_of p grants s

@@ -1,26 +1,25 @@
 -- Segments put into a slot one after another. Assumes nothing.
 use mathlib.Core.Path.{◌≡◌, refl, sym, ap, ◌∙◌}
 use mathlib.Core.List.{List}
-use Prim.Native.Nat.{ℕ, zero, suc, ◌+◌, ◌-◌, ◌≤◌, ◌<◌}
-use native.Mathlib.Nat.{sub-zero}
+use Prim.Native.Nat.{ℕ, zero, suc, ◌+◌, ◌-◌, ◌/◌, ◌%◌, ◌^◌, ◌≤◌, ◌<◌}
 use native.Mathlib.Numerals.{add-one}
 use native.Mathlib.Omega.{arith}
-use lib.ListN.{length}
-use Rattle.wire.proofs.LittleEndian.{length-store}
-use Rattle.model.specs.declared.Segment.{Segment}
+use lib.ListN.{set}
+use Rattle.wire.specs.LittleEndian.{store}
 use Rattle.asking.specs.Request.{segment_in, segments_in}
 use Rattle.asking.specs.Slot.{set_segment, set_segments}
 
-pub length-set_segment : (slot : List ℕ) (i : ℕ) (s : Segment) → length (set_segment slot i s) ≡ length slot
-unfolding set_segment
-length-set_segment slot i s = length-store 1 _ _ _ ∙ length-store 1 _ _ _ ∙ length-store 4 slot _ _
+-- the low byte of v goes to i
+pub store_one : (b : List ℕ) (i v : ℕ) → store 1 b i v ≡ set b i (v % 256)
+unfolding store
+store_one b i v =
+    let place : i + 0 ≡ i = omega arith in
+    let value : v / 256 ^ 0 % 256 ≡ v % 256 = omega arith in
+    λ z. set b (place z) (value z)
 
 -- what is left to put, of n segments, at number i
 abbrev pub put_on : List ℕ → ℕ → ℕ → List ℕ → List ℕ
 put_on w n i slot = set_segments slot i (segments_in (n - i) w i)
-
-pub put-begin : (w : List ℕ) (n : ℕ) (slot : List ℕ) → put_on w n 0 slot ≡ set_segments slot 0 (segments_in n w 0)
-put-begin w n slot = ap (λ (m : ℕ). set_segments slot 0 (segments_in m w 0)) (sub-zero n)
 
 put-more : (w : List ℕ) (m i : ℕ) (slot : List ℕ) → set_segments slot i (segments_in (suc m) w i) ≡ set_segments (set_segment slot i (segment_in w i)) (suc i) (segments_in m w (suc i))
 unfolding set_segments segments_in

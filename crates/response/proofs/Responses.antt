@@ -8,11 +8,13 @@ use lib.Seq.{ext_get_or}
 use Rattle.wire.specs.Part.{part}
 use Rattle.wire.proofs.LittleEndian.{get_d-store-outside, load-agree}
 use Rattle.wire.proofs.Part.{get_d_part}
-use Rattle.model.specs.Ring.{Ring, Layout, rsp_prod_at, rsp_event_at, rsp_event, set_rsp_prod, slot_at, response_operation_at, response_status_at, response_padding_at, status_bits, set_response}
+use Rattle.model.specs.Ring.{Ring, Layout, layout_of, ring_for, header_size, rsp_prod_at, rsp_event_at, rsp_event, set_rsp_prod, slot_at, response_operation_at, response_status_at, response_padding_at, status_bits, set_response}
 use Rattle.model.specs.Turn.{written, responded_all, responded}
+use Rattle.model.specs.declared.Abi.{Abi}
+use Rattle.model.specs.declared.Pages.{Pages}
 use Rattle.model.specs.declared.Pair.{Pair}
 use Rattle.model.specs.declared.Status.{Status}
-use Rattle.model.proofs.Ring.{Fits, slot_at-header}
+use Rattle.model.proofs.Ring.{Fits, fits-for, header-room, slot_at-header}
 use Rattle.model.proofs.Page.{length-responded}
 
 -- ---- a byte that no store of a response reaches
@@ -32,6 +34,20 @@ module _ (l : Layout) (room : response_padding_at ≤ l.response_size) (page : L
   pub event-response : rsp_event_at + 4 ≤ at → rsp_event (set_response l page at q s) ≡ rsp_event page
   unfolding rsp_event
   event-response h = load-agree 4 (set_response l page at q s) page rsp_event_at (λ i k. response-outside (rsp_event_at + i) (λ u v e. omega arith))
+
+-- in a ring of any layout: the slot lies behind the header, so rsp_event is as it was
+pub event_left : (abi : Abi) (pages : Pages) (page : List ℕ) (produced : ℕ) (q : Pair) (s : Status)
+    → rsp_event (set_response (layout_of abi) page (slot_at (ring_for abi pages) produced) q s) ≡ rsp_event page
+unfolding ring_for
+event_left abi pages page produced q s =
+    let g = ring_for abi pages in
+    let f = fits-for abi pages in
+    let behind = slot_at-header g f produced in
+    event-response g.layout f.status_room page (slot_at g produced) q s (omega arith)
+
+-- and the ring has room for the header
+pub header_fits : (abi : Abi) (pages : Pages) → header_size ≤ (ring_for abi pages).bytes
+header_fits abi pages = omega (arith, header-room (ring_for abi pages) (fits-for abi pages))
 
 -- ---- the page after a response of a ring
 

@@ -1,5 +1,5 @@
 -- Bytes copied one after another, what two such copies leave of a slot, and the request in it. Assumes nothing.
-use Rattle.std.proofs.Common.{◌≡◌, ℕ, ◌+◌, ◌<◌, ◌≤◌, List, length, get_or, set, replicate, sym, refl, ◌∙◌, add_assoc, zero-add, arith, get_or-set_other, get_or-set_same}
+use Rattle.std.proofs.Common.{◌≡◌, ℕ, ◌+◌, ◌<◌, ◌≤◌, List, length, get_or, set, replicate, sym, ◌∙◌, add_assoc, zero-add, arith, get_or-set_other, get_or-set_same}
 use native.Mathlib.Decide.{ℕ_discrete, dec_lt}
 use lib.ListN.{get_or-replicate, get_or-eq_default}
 use Rattle.wire.specs.Part.{part}
@@ -12,9 +12,6 @@ use Rattle.model.proofs.Ring.{fits-for, request-same}
 use Rattle.ring.specs.Copy.{Copied, CopyOf}
 
 -- ---- one byte after another
-
-pub copied_none : (source : List ℕ) (from : ℕ) (before : List ℕ) (to : ℕ) → Copied 0 source from before to before
-copied_none source from before to = record { there = λ i k. absurd (omega arith); kept = λ j h. refl }
 
 module _ (n : ℕ) (source : List ℕ) (from : ℕ) (before : List ℕ) (to : ℕ) (left : List ℕ) (c : Copied n source from before to left) (l : to + n < length left) where
   abbrev more : List ℕ

@@ -6,19 +6,20 @@ ghost use Rattle.model.specs.Port.{distance as distance_of, further, after};
 pub fn next_index(i: u32) -> u32
     ensures { result ≡ after i }
 {
-    std::num::wrapping_add_u32(i, 1)
+    i.wrapping_add(1)
 }
 
 // The index n after i.
 pub fn index_after(i: u32, n: u32) -> u32
     ensures { result ≡ further i n }
 {
-    std::num::wrapping_add_u32(i, n)
+    i.wrapping_add(n)
 }
 
 // How far the index i is ahead of j.
+#[tactic(auto, unfolding(model::specs::Port::distance))]
 pub fn distance(i: u32, j: u32) -> u32
     ensures { result ≡ distance_of i j }
 {
-    std::num::wrapping_sub_u32(i, j)
+    i.wrapping_sub(j)
 }

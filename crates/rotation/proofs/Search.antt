@@ -1,8 +1,9 @@
--- The look for a port to serve: what one port shows, and that looking port by port until it comes round finds the port that the rules serve. Assumes nothing.
-use mathlib.Core.Path.{◌≡◌, refl, sym, subst}
+-- The look for a port to serve: what one port shows, and that looking port by port from the pointer on finds the port that the rules serve. Assumes nothing.
+use Rattle.std.proofs.Common.{Some, None}
+use mathlib.Core.Path.{◌≡◌, refl, sym, ap, subst}
 use mathlib.Core.Bool.{Bool, true, false, not, cond, ◌&&◌}
 use mathlib.Core.List.{List}
-use Prim.Native.Nat.{ℕ, suc, ◌+◌, ◌-◌, ◌%◌, ◌^◌, ◌≤◌, ◌<◌}
+use Prim.Native.Nat.{ℕ, suc, ◌+◌, ◌-◌, ◌%◌, ◌≤◌, ◌^◌, ◌<◌}
 use native.Mathlib.Decide.{dec_lt}
 use native.Mathlib.Omega.{arith}
 use lib.Dec.{eqb, ltb}
@@ -16,8 +17,6 @@ use Rattle.model.specs.Turn.{pages_at, pending_at, has_work, looked_at, passed_o
 use Rattle.model.proofs.Base.{least-is, least-found, clash}
 use Rattle.model.proofs.Fairness.{work-is}
 use Rattle.rotation.specs.Pick.{look_of, pick_at, picked}
-use Rattle.rotation.specs.declared.pick.Look.{Look}
-use Rattle.rotation.specs.declared.pick.Pick.{Pick}
 
 -- ---- one port
 
@@ -35,26 +34,26 @@ module _ (b : Backend) (rings : List ℕ) (k : ℕ) where
   unfolding has_work pending_at view_of
   work = rw work-is
 
-  pub look-shut : is_open (b.port k).state ≡ false → Look.Nothing ≡ look_of (view_of b) rings k
+  pub look-shut : is_open (b.port k).state ≡ false → None ≡ look_of (view_of b) rings k
   unfolding look_of
   look-shut o = rw (work, o)
 
   module _ (o : is_open (b.port k).state ≡ true) (l : req_prod (pages_at (view_of b) rings k) < 2 ^ 32) where
-    pub look-same : req_prod (pages_at (view_of b) rings k) ≡ (b.port k).consumed → Look.Nothing ≡ look_of (view_of b) rings k
+    pub look-same : req_prod (pages_at (view_of b) rings k) ≡ (b.port k).consumed → None ≡ look_of (view_of b) rings k
     unfolding look_of
     look-same e = rw (work, o, ← e, eq-eqb _ 0 (distance-zero _ l))
 
     pub look-work : (b.port k).consumed < 2 ^ 32 → (req_prod (pages_at (view_of b) rings k) ≡ (b.port k).consumed → ⊥)
-        → Look.Work (req_prod (pages_at (view_of b) rings k)) ≡ look_of (view_of b) rings k
+        → Some (req_prod (pages_at (view_of b) rings k)) ≡ look_of (view_of b) rings k
     unfolding look_of
     look-work r d = rw (work, o, ne_eqb _ 0 (distance_some _ _ l r d))
 
 -- what was seen says whether there is work
-seen-work : (b : Bool) (q x : ℕ) → Look.Work q ≡ cond b (Look.Work x) Look.Nothing → (b ≡ true) × (q ≡ x)
+seen-work : (b : Bool) (q x : ℕ) → Some q ≡ cond b (Some x) None → (b ≡ true) × (q ≡ x)
 seen-work true q x e = (refl, cc)
 seen-work false q x e = let z : ◌≡◌ {A = ℕ} 0 1 = cc in absurd (omega arith)
 
-seen_nothing : (b : Bool) (x : ℕ) → Look.Nothing ≡ cond b (Look.Work x) Look.Nothing → b ≡ false
+seen_nothing : (b : Bool) (x : ℕ) → None ≡ cond b (Some x) None → b ≡ false
 seen_nothing true x e = let z : ◌≡◌ {A = ℕ} 0 1 = cc in absurd (omega arith)
 seen_nothing false x e = refl
 
@@ -114,10 +113,7 @@ module _ (v : View) (rings : List ℕ) where
   abbrev pub Passed : ℕ → Type 0
   Passed n = (i : ℕ) → i < n → has_work v rings (looked_at v i) ≡ false
 
-  pub passed_none : Passed 0
-  passed_none i h = absurd (omega arith)
-
-  pub passed-more : (n : ℕ) → Passed n → Look.Nothing ≡ look_of v rings (looked_at v n) → Passed (suc n)
+  pub passed-more : (n : ℕ) → Passed n → None ≡ look_of v rings (looked_at v n) → Passed (suc n)
   unfolding look_of
   passed-more n p e i h =
       elim (dec_lt i n) [
@@ -127,14 +123,14 @@ module _ (v : View) (rings : List ℕ) where
             subst (λ (j : ℕ). has_work v rings (looked_at v j) ≡ false) z (seen_nothing _ _ e)
       ]
 
-  pub found_here : (n : ℕ) (k q : ℕ) → n < ports → k ≡ looked_at v n → Passed n → Look.Work q ≡ look_of v rings k → Pick.Port k q ≡ picked v rings
+  pub found_here : (n : ℕ) (k q : ℕ) → n < ports → k ≡ looked_at v n → Passed n → Some q ≡ look_of v rings k → Some (k, q) ≡ picked v rings
   unfolding picked passed_over look_of
   found_here n k q l e p w =
       let s = seen-work (has_work v rings k) q _ w in
       let z : least ports (λ i. has_work v rings (looked_at v i)) ≡ n = least-found ports (λ i. has_work v rings (looked_at v i)) n l (rw (← e) s.0) p in
       rw (z, lt-ltb n ports l, s.1, ← e)
 
-  pub found_none : Passed ports → Pick.Nobody ≡ picked v rings
+  pub found_none : Passed ports → None ≡ picked v rings
   unfolding picked passed_over
   found_none p =
       let f : ℕ → Bool = λ i. has_work v rings (looked_at v i) in
@@ -148,22 +144,22 @@ module _ (v : View) (rings : List ℕ) where
     pub work : has_work v rings k ≡ true
     pub read : q ≡ req_prod (pages_at v rings k)
 
-  pub pick-found : (k q : ℕ) → picked v rings ≡ Pick.Port k q → Found k q
+  pub pick-found : (k q : ℕ) → picked v rings ≡ Some (k, q) → Found k q
   unfolding picked passed_over
   pick-found k q = go (ltb (passed_over v rings) ports) refl
     where
-      go : (b : Bool) → ltb (passed_over v rings) ports ≡ b → cond b (pick_at v rings (passed_over v rings)) Pick.Nobody ≡ Pick.Port k q → Found k q
+      go : (b : Bool) → ltb (passed_over v rings) ports ≡ b → cond b (pick_at v rings (passed_over v rings)) None ≡ Some (k, q) → Found k q
       go true l e =
-          let z : k ≡ looked_at v (passed_over v rings) = cc in
-          let y : req_prod (pages_at v rings (looked_at v (passed_over v rings))) ≡ q = cc in
+          let y : ◌≡◌ {A = ℕ × ℕ} (k, q) (looked_at v (passed_over v rings), req_prod (pages_at v rings (looked_at v (passed_over v rings)))) = cc in
+          let z = ap (λ (x : ℕ × ℕ). x.0) y in
           let w = ltb-true _ _ l in
-          record { within = w; place = z; work = rw z (least-is ports (λ i. has_work v rings (looked_at v i)) w); read = rw z (sym y) }
+          record { within = w; place = z; work = rw z (least-is ports (λ i. has_work v rings (looked_at v i)) w); read = rw z (ap (λ (x : ℕ × ℕ). x.1) y) }
       go false l e = let z : ◌≡◌ {A = ℕ} 0 1 = cc in absurd (omega arith)
 
-  pub pick-none : picked v rings ≡ Pick.Nobody → ltb (passed_over v rings) ports ≡ false
+  pub pick-none : picked v rings ≡ None → ltb (passed_over v rings) ports ≡ false
   unfolding picked
   pick-none = go (ltb (passed_over v rings) ports)
     where
-      go : (b : Bool) → cond b (pick_at v rings (passed_over v rings)) Pick.Nobody ≡ Pick.Nobody → b ≡ false
+      go : (b : Bool) → cond b (pick_at v rings (passed_over v rings)) None ≡ None → b ≡ false
       go true e = let z : ◌≡◌ {A = ℕ} 0 1 = cc in absurd (omega arith)
       go false e = refl

@@ -3,4 +3,4 @@
 
 mod pick;
 
-pub use pick::{Pick, pick_port};
+pub use pick::pick_port;

@@ -11,8 +11,8 @@ use native.Mathlib.Omega.{arith}
 use borrow.Author.Tests.{ltb-false, not-false}
 use Rattle.model.proofs.Base.{by_cond, or_left, or_right}
 use Rattle.runs.specs.Join.{extent_at, extents_at, is_sound, follows, followed, are_sound, groups_of, runs_of}
-use Rattle.runs.specs.Answer.{is_no_plan, runs_in, joined, filled, left_list, taken}
-use Rattle.runs.specs.declared.Joined.{Joined}
+use Rattle.runs.specs.Answer.{Joined, is_no_plan, runs_in, joined, filled, left_list, taken}
+use Rattle.std.specs.Prelude.{Ok, Err}
 use Rattle.runs.specs.declared.Run.{Run}
 
 -- ---- no machine frame makes an extent sound
@@ -57,5 +57,5 @@ ready words n frames list =
 
 pub left : (words : List ℕ) (n : ℕ) (frames : List ℕ) (list : List Run) (j : Joined) → filled (runs_in words frames (taken n j)) list ≡ left_list (runs_in words frames n) list j
 unfolding filled runs_in runs_of groups_of extents_at
-left words n frames list (Joined.Refused number) = refl
-left words n frames list (Joined.Done k) = refl
+left words n frames list (Err why) = refl
+left words n frames list (Ok k) = refl

@@ -3,9 +3,10 @@ use mathlib.Core.Path.{◌≡◌, refl}
 use mathlib.Core.List.{List, [], ◌∷◌, ◌++◌}
 use Prim.Native.Nat.{ℕ, ◌-◌, ◌^◌}
 use lib.ListN.{length}
-use Rattle.runs.specs.Answer.{is_no_plan, runs_in, joined}
+use Rattle.runs.specs.Answer.{Joined, is_no_plan, runs_in, joined}
 use Rattle.runs.specs.Join.{extent_at, extents_at, is_sound, follows, followed, are_sound, joins, joins_next, in_first, groups_of, total_length, run_of, runs_of}
-use Rattle.runs.specs.declared.Joined.{Joined}
+use Rattle.model.specs.declared.Refusal.{Refusal}
+use Rattle.std.specs.Prelude.{Ok, Err}
 use Rattle.runs.specs.declared.Run.{Run}
 
 -- an extent's words, with a frame of its own that nothing looks at
@@ -43,20 +44,20 @@ abbrev one : List ℕ → ℕ → Joined
 one words n = joined words n (7 ∷ 8 ∷ []) 2
 
 plans :
-    (one [] 0 ≡ Joined.Done 0) × (one [] 1 ≡ Joined.Refused 10)
-    × (one (extent 7 1 0) 1 ≡ Joined.Done 1) × (one (extent 7 2 0) 1 ≡ Joined.Refused 10) × (one (extent 8 0 0) 1 ≡ Joined.Refused 10) × (one (extent 0 0 0) 1 ≡ Joined.Refused 10)
-    × (one (extent 0 8 0) 1 ≡ Joined.Done 1) × (one (extent 0 9 0) 1 ≡ Joined.Refused 10) × (one (extent last last 0) 1 ≡ Joined.Refused 10)
-    × (one (extent 0 1 (last - 1)) 1 ≡ Joined.Done 1) × (one (extent 0 1 last) 1 ≡ Joined.Refused 10)
-    × (one (extent 0 8 0 ++ extent 0 8 8) 2 ≡ Joined.Done 1) × (one (extent 0 8 0 ++ extent 0 8 9) 2 ≡ Joined.Refused 10) × (one (extent 0 8 0 ++ extent 0 8 7) 2 ≡ Joined.Refused 10)
-    × (one (extent 0 8 0 ++ extent 0 0 0) 1 ≡ Joined.Done 1) × (one (99 ∷ 0 ∷ 8 ∷ []) 1 ≡ Joined.Refused 10)
-    × (one (extent 0 8 0 ++ extent 0 0 8) 2 ≡ Joined.Refused 10) × (one (extent 0 8 0 ++ extent 7 2 8) 2 ≡ Joined.Refused 10) × (joined (extent 0 8 0 ++ extent 0 0 8) 2 (7 ∷ []) 0 ≡ Joined.Refused 10)
+    (one [] 0 ≡ Ok 0) × (one [] 1 ≡ Err Refusal.NoPlan)
+    × (one (extent 7 1 0) 1 ≡ Ok 1) × (one (extent 7 2 0) 1 ≡ Err Refusal.NoPlan) × (one (extent 8 0 0) 1 ≡ Err Refusal.NoPlan) × (one (extent 0 0 0) 1 ≡ Err Refusal.NoPlan)
+    × (one (extent 0 8 0) 1 ≡ Ok 1) × (one (extent 0 9 0) 1 ≡ Err Refusal.NoPlan) × (one (extent last last 0) 1 ≡ Err Refusal.NoPlan)
+    × (one (extent 0 1 (last - 1)) 1 ≡ Ok 1) × (one (extent 0 1 last) 1 ≡ Err Refusal.NoPlan)
+    × (one (extent 0 8 0 ++ extent 0 8 8) 2 ≡ Ok 1) × (one (extent 0 8 0 ++ extent 0 8 9) 2 ≡ Err Refusal.NoPlan) × (one (extent 0 8 0 ++ extent 0 8 7) 2 ≡ Err Refusal.NoPlan)
+    × (one (extent 0 8 0 ++ extent 0 0 0) 1 ≡ Ok 1) × (one (99 ∷ 0 ∷ 8 ∷ []) 1 ≡ Err Refusal.NoPlan)
+    × (one (extent 0 8 0 ++ extent 0 0 8) 2 ≡ Err Refusal.NoPlan) × (one (extent 0 8 0 ++ extent 7 2 8) 2 ≡ Err Refusal.NoPlan) × (joined (extent 0 8 0 ++ extent 0 0 8) 2 (7 ∷ []) 0 ≡ Err Refusal.NoPlan)
 unfolding joined is_no_plan are_sound is_sound followed follows runs_in runs_of run_of total_length groups_of in_first joins_next joins extents_at extent_at
 plans = (refl, refl, refl, refl, refl, refl, refl, refl, refl, refl, refl, refl, refl, refl, refl, refl, refl, refl, refl)
 
 -- refusals 8 and 9 (rules 17.9 and 17.10), and the order of all three (rule 17.4)
 rest :
-    (joined (two 0) 2 (7 ∷ []) 2 ≡ Joined.Refused 8) × (joined (two 0) 1 (7 ∷ []) 1 ≡ Joined.Done 1)
-    × (joined (two 0) 2 (7 ∷ 8 ∷ []) 1 ≡ Joined.Done 1) × (joined (two 0) 2 (7 ∷ 8 ∷ []) 0 ≡ Joined.Refused 9) × (joined (two 0) 2 (7 ∷ 9 ∷ []) 1 ≡ Joined.Refused 9)
-    × (joined (two 0) 2 [] 0 ≡ Joined.Refused 8) × (joined (two 0) 3 [] 0 ≡ Joined.Refused 10) × (joined (extent 0 0 0) 1 [] 0 ≡ Joined.Refused 10)
+    (joined (two 0) 2 (7 ∷ []) 2 ≡ Err Refusal.TooFewFrames) × (joined (two 0) 1 (7 ∷ []) 1 ≡ Ok 1)
+    × (joined (two 0) 2 (7 ∷ 8 ∷ []) 1 ≡ Ok 1) × (joined (two 0) 2 (7 ∷ 8 ∷ []) 0 ≡ Err Refusal.TooFewRuns) × (joined (two 0) 2 (7 ∷ 9 ∷ []) 1 ≡ Err Refusal.TooFewRuns)
+    × (joined (two 0) 2 [] 0 ≡ Err Refusal.TooFewFrames) × (joined (two 0) 3 [] 0 ≡ Err Refusal.NoPlan) × (joined (extent 0 0 0) 1 [] 0 ≡ Err Refusal.NoPlan)
 unfolding joined is_no_plan are_sound is_sound followed follows runs_in runs_of run_of total_length groups_of in_first joins_next joins extents_at extent_at
 rest = (refl, refl, refl, refl, refl, refl, refl, refl)

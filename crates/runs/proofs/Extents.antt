@@ -27,11 +27,6 @@ module _ (words frames : List ℕ) where
       let none : n - i ≡ zero = omega arith in
       rw none
 
-  pub extents-all : (n : ℕ) → extents_at words frames 0 (n - 0) ≡ extents_at words frames 0 n
-  extents-all n =
-      let all : n - 0 ≡ n = omega arith in
-      rw all
-
   module _ (e : Run) (i n : ℕ) where
     -- the last is followed by none, and joins none
     pub last-followed : i + 1 ≡ n → followed e (extents_at words frames (i + 1) (n - (i + 1))) ≡ true
@@ -120,18 +115,20 @@ pub ruleset neighbours = (last-followed, last-joins, next-followed, next-joins)
 
 -- ---- the extents that are left, as the loops of the code look at them
 
-module _ (words : List ℕ) (i n : ℕ) (h : i < n) where
+module _ (words frames : List ℕ) (i n : ℕ) (h : i < n) where
   abbrev here : Run
-  here = extent_at words [] i
+  here = extent_at words frames i
 
   abbrev behind : List Run
-  behind = extents_at words [] (i + 1) (n - (i + 1))
+  behind = extents_at words frames (i + 1) (n - (i + 1))
 
-  pub sound_left_on : is_sound here && followed here behind ≡ true → are_sound (extents_at words [] i (n - i)) ≡ are_sound behind
-  sound_left_on s = ap are_sound (extents-cons words [] i n h) ∙ sound-on here behind s
+  pub sound_left_on : is_sound here && followed here behind ≡ true → are_sound (extents_at words frames i (n - i)) ≡ are_sound behind
+  sound_left_on s = ap are_sound (extents-cons words frames i n h) ∙ sound-on here behind s
 
-  pub sound_left_off : is_sound here && followed here behind ≡ false → are_sound (extents_at words [] i (n - i)) ≡ false
-  sound_left_off s = ap are_sound (extents-cons words [] i n h) ∙ sound-off here behind s
+  pub sound_left_off : is_sound here && followed here behind ≡ false → are_sound (extents_at words frames i (n - i)) ≡ false
+  sound_left_off s = ap are_sound (extents-cons words frames i n h) ∙ sound-off here behind s
 
-pub sound_left_none : (words : List ℕ) (i n : ℕ) → i ≡ n → are_sound (extents_at words [] i (n - i)) ≡ true
-sound_left_none words i n h = ap are_sound (extents-none words [] i n h) ∙ sound_none
+pub sound_left_none : (words frames : List ℕ) (i n : ℕ) → i ≡ n → are_sound (extents_at words frames i (n - i)) ≡ true
+sound_left_none words frames i n h = ap are_sound (extents-none words frames i n h) ∙ sound_none
+
+pub ruleset sound_left = (sound_left_on, sound_left_off, sound_left_none)

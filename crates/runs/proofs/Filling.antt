@@ -1,9 +1,8 @@
 -- What the loop of `fill` keeps, in lists and numbers.
---     filled_none, filled_next, length-filled    a list with no run put in front, and with one run more; it stays as long as it is
---     Filling                                    where the loop stands: the runs that are found, and the extent from which it goes on
---     start, next                                at the first extent, and behind the run that is found there
---     Nearer, Nearer-wf, nearer                  fewer extents are left: so the loop ends
---     free, all                                  there is a record for the run that is found; where no extent is left, all the runs are found
+--     filled_none, filled_next    a list with no run put in front, and with one run more
+--     Filling                     where the loop stands: the runs that are found, and the extent from which it goes on
+--     start, next                 at the first extent, and behind the run that is found there
+--     free, all, full             there is a record for the run that is found; where no extent is left, or no record, all the runs are found
 -- Assumes nothing.
 use mathlib.Core.Path.{◌≡◌, refl, sym, ap, ◌∙◌}
 use Prim.Native.Nat.{ℕ, ◌-◌, ◌<◌, ◌≤◌}
@@ -11,10 +10,7 @@ use native.Mathlib.Omega.{arith}
 use native.Mathlib.Nat.{sub-zero, sub_self}
 use mathlib.Core.Bool.{true}
 use mathlib.Core.List.{List, [], ◌∷◌, ◌++◌, append_assoc, append-nil}
-use mathlib.Core.WellFounded.InvImage
-use mathlib.Core.WellFounded.{WellFounded}
-use lib.ListN.{length, set, length-append, length-drop}
-use lib.WfN.{lt-wf_rel}
+use lib.ListN.{length, set, length-append}
 use Rattle.runs.specs.Answer.{runs_in, filled}
 use Rattle.runs.specs.Found.{Found}
 use Rattle.runs.specs.Join.{extents_at, are_sound, runs_of, groups_of}
@@ -34,10 +30,6 @@ filled_next [] (x ∷ xs) r l = refl
 filled_next (y ∷ ys) [] r l = absurd (omega arith)
 filled_next (y ∷ ys) (x ∷ xs) r l = ap (λ (zs : List Run). y ∷ zs) (filled_next ys xs r (omega arith))
 
-pub length-filled : (runs list : List Run) → length runs ≤ length list → length (filled runs list) ≡ length list
-unfolding filled
-length-filled runs list h = simp (length-append, length-drop) (omega arith)
-
 -- ---- the loop
 
 pub record Filling (words frames : List ℕ) (n : ℕ) : Type 0 where
@@ -52,12 +44,6 @@ unfolding runs_in
 all_left words frames n = rw (sub-zero n)
 
 module _ {words frames : List ℕ} {n : ℕ} where
-  abbrev pub Nearer : Filling words frames n → Filling words frames n → Type 0
-  Nearer t s = n - t.from < n - s.from
-
-  pub Nearer-wf : WellFounded Nearer
-  Nearer-wf = InvImage.wf (λ (s : Filling words frames n). n - s.from) lt-wf_rel.wf
-
   abbrev pub start : are_sound (extents_at words frames 0 n) ≡ true → Filling words frames n
   start sound = record { found = []; from = 0; within = omega arith; sound = rw (sub-zero n) sound; whole = all_left words frames n }
 
@@ -71,9 +57,6 @@ module _ {words frames : List ℕ} {n : ℕ} where
       whole = append_assoc s.found (r.run ∷ []) _ ∙ ap (λ (rs : List Run). s.found ++ rs) (sym f.runs) ∙ s.whole;
     }
 
-    pub nearer : (r : FirstRun) (f : Found words frames s.from n r) → Nearer (next r f) s
-    nearer r f = omega (arith, f.onward, f.within)
-
     pub free : (list : List Run) → length (runs_in words frames n) ≤ length list → (r : FirstRun) → Found words frames s.from n r → length s.found < length list
     free list h r f =
         omega (arith, ap (λ (rs : List Run). length rs) s.whole, ap (λ (rs : List Run). length rs) f.runs, length-append s.found (runs_of (extents_at words frames s.from (n - s.from))))
@@ -81,3 +64,11 @@ module _ {words frames : List ℕ} {n : ℕ} where
     pub all : s.from ≡ n → s.found ≡ runs_in words frames n
     unfolding extents_at runs_of groups_of
     all e = sym (append-nil s.found) ∙ rw (e, sub_self n) at s.whole
+
+    -- and where there are as many of them
+    pub full : length (runs_in words frames n) ≤ length s.found → s.found ≡ runs_in words frames n
+    full h = none (runs_of (extents_at words frames s.from (n - s.from))) s.whole
+      where
+        none : (rest : List Run) → s.found ++ rest ≡ runs_in words frames n → s.found ≡ runs_in words frames n
+        none [] e = sym (append-nil s.found) ∙ e
+        none (r ∷ rs) e = absurd (omega (arith, ap (λ (xs : List Run). length xs) e, length-append s.found (r ∷ rs)))

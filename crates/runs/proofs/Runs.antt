@@ -2,13 +2,14 @@
 use mathlib.Core.Path.{◌≡◌, refl, sym, ◌∙◌, ap}
 use mathlib.Core.Bool.{Bool, true, false, cond}
 use mathlib.Core.List.{List, [], ◌∷◌, map}
-use Prim.Native.Nat.{ℕ, suc, ◌+◌, ◌≤◌}
+use Prim.Native.Nat.{ℕ, suc, ◌+◌, ◌-◌, ◌<◌, ◌≤◌}
 use native.Mathlib.Nat.{add_assoc, add-zero, zero-add}
 use native.Mathlib.Omega.{arith}
 use lib.ListN.{length}
 use Rattle.model.proofs.Base.{by_cond, clash}
-use Rattle.runs.specs.Join.{joins_next, in_first, groups_of, total_length, run_of, runs_of}
+use Rattle.runs.specs.Join.{extent_at, extents_at, joins_next, in_first, groups_of, total_length, run_of, runs_of}
 use Rattle.runs.specs.declared.Run.{Run}
+use Rattle.runs.proofs.Extents.{extents-cons, extents-none}
 
 -- the first group begins with the first extent
 pub record Begun (e : Run) (groups : List (List Run)) : Type 0 where
@@ -66,6 +67,25 @@ ending-one false = omega arith
 pub count_none : length (runs_of []) ≡ 0
 unfolding runs_of groups_of
 count_none = refl
+
+-- of the extents that are left, as the loop of the code looks at them
+module _ (words frames : List ℕ) (i n : ℕ) where
+  abbrev here : Run
+  here = extent_at words frames i
+
+  abbrev rest : List Run
+  rest = extents_at words frames (i + 1) (n - (i + 1))
+
+  pub count_left_on : i < n → joins_next here rest ≡ true → length (runs_of (extents_at words frames i (n - i))) ≡ length (runs_of rest)
+  count_left_on h j = ap (λ (es : List Run). length (runs_of es)) (extents-cons words frames i n h) ∙ count-joined here rest j
+
+  pub count_left_off : i < n → joins_next here rest ≡ false → length (runs_of (extents_at words frames i (n - i))) ≡ suc (length (runs_of rest))
+  count_left_off h j = ap (λ (es : List Run). length (runs_of es)) (extents-cons words frames i n h) ∙ count-apart here rest j
+
+  pub count_left_none : i ≡ n → length (runs_of (extents_at words frames i (n - i))) ≡ 0
+  count_left_none h = ap (λ (es : List Run). length (runs_of es)) (extents-none words frames i n h) ∙ count_none
+
+pub ruleset count_left = (count_left_on, count_left_off, count_left_none)
 
 -- ---- the first one
 

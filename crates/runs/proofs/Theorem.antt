@@ -7,10 +7,10 @@ use lib.Dec.{ltb}
 use lib.ListN.{length, take, drop, set}
 use lib.Seq.{take-append_seam, drop-append_seam}
 use Rattle.model.proofs.Base.{by_cond}
-use Rattle.runs.specs.Answer.{is_no_plan, runs_in, joined, filled, left_list, joined_number, joined_words, taken, JoinReturned}
+use Rattle.runs.specs.Answer.{Joined, is_no_plan, runs_in, joined, filled, left_list, joined_number, joined_words, taken, JoinReturned}
 use Rattle.runs.specs.Join.{extents_at, runs_of}
 use Rattle.runs.specs.Theorems.{JoinHolds, JoinTheorem}
-use Rattle.runs.specs.declared.Joined.{Joined}
+use Rattle.std.specs.Prelude.{Ok, Err}
 use Rattle.runs.specs.declared.Run.{Run}
 use Rattle.runs.proofs.Answered.{Ready, ready}
 use Rattle.runs.proofs.Covers.{neighbours, same, once}
@@ -49,8 +49,8 @@ holds words n frames list answer list' answer' r =
 
 -- a call that returns another number has left all as it was
 untouched : (runs list : List Run) (answer : List ℕ) (j : Joined) → (joined_number j ≡ 0 → ⊥) → (left_list runs list j ≡ list) × (joined_words answer j ≡ answer)
-untouched runs list answer (Joined.Refused n) z = (refl, refl)
-untouched runs list answer (Joined.Done k) z = absurd (z refl)
+untouched runs list answer (Err why) z = (refl, refl)
+untouched runs list answer (Ok k) z = absurd (z refl)
 
 pub join-theorem : JoinTheorem
 join-theorem = record {

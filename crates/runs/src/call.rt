@@ -1,55 +1,54 @@
-// The call: refused with 10, 8 or 9, or done.
+// The call: refused with 10, 8 or 9, or done. Its answer is the number of runs (rule 17.14).
 ghost use Rattle.std.specs.Prelude.{◌≡◌};
 ghost use Rattle.runs.specs.Answer.{joined, joined_number, joined_words, taken};
 
-use crate::Joined;
-use crate::joining::count_runs;
-use crate::sound::are_sound;
+use crate::extent::{Extents, Placed};
+use model::Refusal;
 use model::buffer::JOIN_WORDS;
 use model::limit::EXTENT_WORDS;
-use model::refusal::{NO_PLAN, TOO_FEW_FRAMES, TOO_FEW_RUNS};
 
 // The answer to extents and frames, where the list has `room` records. A frame is looked at only where there is one for each extent.
 #[tactic(auto, using(crate::proofs::Judged::judged))]
-pub fn judge(words: &[u64], count: u64, frames: &[u64], room: usize) -> Joined
+pub fn judge(words: &[u64], count: u64, frames: &[u64], room: usize) -> Result<u64, Refusal>
     ensures { result ≡ joined words.now count frames.now room }
 {
     let n = count as usize;
     if words.len() / EXTENT_WORDS < n {
-        return Joined::Refused(NO_PLAN);
+        return Err(Refusal::NoPlan);
     }
-    if !are_sound(words, n) {
-        return Joined::Refused(NO_PLAN);
+    let extents = Extents { words, n };
+    if !extents.are_sound() {
+        return Err(Refusal::NoPlan);
     }
     if frames.len() < n {
-        return Joined::Refused(TOO_FEW_FRAMES);
+        return Err(Refusal::TooFewFrames);
     }
-    let runs = count_runs(words, frames, n);
+    let runs = Placed { extents, frames }.count_runs();
     if room < runs {
-        return Joined::Refused(TOO_FEW_RUNS);
+        return Err(Refusal::TooFewRuns);
     }
-    Joined::Done(runs as u64)
+    Ok(runs as u64)
 }
 
 // How many extents are to be joined.
-pub fn taken(count: u64, joined: Joined) -> usize
+pub fn taken(count: u64, joined: Result<u64, Refusal>) -> usize
     ensures { result ≡ taken count joined }
 {
     match joined {
-        Joined::Refused(_) => 0,
-        Joined::Done(_) => count as usize,
+        Ok(_) => count as usize,
+        Err(_) => 0,
     }
 }
 
 // The answer's word, which a refusal leaves alone, and the number to return.
-pub fn put_joined(answer: &mut [u64; JOIN_WORDS], joined: Joined) -> u32
+pub fn put_joined(answer: &mut [u64; JOIN_WORDS], joined: Result<u64, Refusal>) -> u32
     ensures { (result ≡ joined_number joined) × (answer.new ≡ joined_words answer.old joined) }
 {
     match joined {
-        Joined::Refused(number) => number,
-        Joined::Done(runs) => {
+        Ok(runs) => {
             answer[0] = runs;
             0
         }
+        Err(refusal) => u32::from(refusal),
     }
 }

@@ -8,36 +8,50 @@ use model::limit::EXTENT_WORDS;
 // How many sectors a frame has (rule 8.26).
 const FRAME_SECTORS: u64 = 8;
 
-// The greatest number of a word.
-const MOST: u64 = 18446744073709551615;
+// The first n extents of a plan's words.
+#[derive(Clone, Copy)]
+pub struct Extents<'a> {
+    pub words: &'a [u64],
+    pub n: usize,
+    ghost in_words: { 4 * n ≤ length words.now },
+}
 
-// The extent at place i as the plan has it, with no machine frame.
-#[tactic(auto, unfolding(crate::specs::Join::extent_at))]
-pub fn extent_in(words: &[u64], i: usize) -> Run
-    requires { 4 * i + 4 ≤ length words.now }
-    ensures { result ≡ extent_at words.now [] i }
-{
-    let at = EXTENT_WORDS * i;
-    Run {
-        frame: 0,
-        first: words[at + 1],
-        length: words[at + 2],
-        sector: words[at + 3],
+impl Extents<'_> {
+    // The one at place i, in no machine frame.
+    #[tactic(auto, unfolding(crate::specs::Join::extent_at))]
+    pub fn get(&self, i: usize) -> Run
+        requires { i < self.now.n }
+        ensures { result ≡ extent_at self.now.words.now [] i }
+    {
+        let at = EXTENT_WORDS * i;
+        Run {
+            frame: 0,
+            first: self.words[at + 1],
+            length: self.words[at + 2],
+            sector: self.words[at + 3],
+        }
     }
 }
 
-// The extent at place i in its machine frame.
-#[tactic(auto, unfolding(crate::specs::Join::extent_at))]
-pub fn extent_at(words: &[u64], frames: &[u64], i: usize) -> Run
-    requires { (4 * i + 4 ≤ length words.now) × (i < length frames.now) }
-    ensures { result ≡ extent_at words.now frames.now i }
-{
-    let at = EXTENT_WORDS * i;
-    Run {
-        frame: frames[i],
-        first: words[at + 1],
-        length: words[at + 2],
-        sector: words[at + 3],
+// The same with the machine frames that the host names for them.
+#[derive(Clone, Copy)]
+pub struct Placed<'a, 'b> {
+    pub extents: Extents<'a>,
+    pub frames: &'b [u64],
+    ghost in_frames: { extents.n ≤ length frames.now },
+}
+
+impl Placed<'_, '_> {
+    // The one at place i, in its machine frame.
+    #[tactic(auto, unfolding(crate::specs::Join::extent_at))]
+    pub fn get(&self, i: usize) -> Run
+        requires { i < self.now.extents.n }
+        ensures { result ≡ extent_at self.now.extents.words.now self.now.frames.now i }
+    {
+        Run {
+            frame: self.frames[i],
+            ..self.extents.get(i)
+        }
     }
 }
 
@@ -54,7 +68,7 @@ pub fn is_sound(e: Run) -> bool
     if FRAME_SECTORS - e.length < e.first {
         return false;
     }
-    e.length <= MOST - e.sector
+    e.length <= u64::MAX - e.sector
 }
 
 #[tactic(auto, using(crate::proofs::Tests::sums), unfolding(crate::specs::Join::follows))]
@@ -87,7 +101,7 @@ pub fn joins(e: Run, f: Run) -> bool
     if f.first != 0 {
         return false;
     }
-    if e.frame == MOST {
+    if e.frame == u64::MAX {
         return false;
     }
     if f.frame != e.frame + 1 {

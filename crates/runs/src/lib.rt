@@ -20,13 +20,6 @@ pub struct Run {
     pub sector: u64,
 }
 
-// The answer of joining: the number of runs (rule 17.14).
-#[derive(Clone, Copy)]
-pub enum Joined {
-    Refused(u32),
-    Done(u64),
-}
-
 // The first run of some extents, and the place behind its last one.
 #[derive(Clone, Copy)]
 pub struct FirstRun {

@@ -1,5 +1,5 @@
 -- What a pass over the segments has found so far, and how one more segment is taken in. Assumes nothing.
-use Rattle.std.proofs.Common.{◌≡◌, ℕ, ◌+◌, ◌-◌, ◌*◌, ◌%◌, ◌^◌, ◌<◌, ◌≤◌, Bool, true, false, cond, ◌&&◌, ltb, List, [], ◌∷◌, ◌++◌, length, get_or, take, sym, refl, ap, ◌∙◌, mod-eq_of_lt, zero-add, arith, length-append, le-ltb, lt-ltb}
+use Rattle.std.proofs.Common.{◌≡◌, ℕ, ◌+◌, ◌-◌, ◌*◌, ◌%◌, ◌^◌, ◌<◌, ◌≤◌, true, false, ◌&&◌, ltb, List, [], ◌∷◌, ◌++◌, length, get_or, take, sym, refl, ap, ◌∙◌, mod-eq_of_lt, zero-add, arith, length-append, le-ltb, lt-ltb}
 use native.Mathlib.Decide.{dec_lt}
 use lib.Seq.{sets, length-sets}
 use Rattle.model.specs.Base.{all}
@@ -10,8 +10,8 @@ use Rattle.model.specs.Plan.{Extent, extents_from, extent_words}
 use Rattle.model.specs.declared.Segment.{Segment}
 use Rattle.model.proofs.Base.{and_left, and_right, and-false}
 use Rattle.segments.specs.Segments.{passes, Scanned}
-use Rattle.segments.specs.declared.Counted.{Counted}
-use Rattle.segments.proofs.Slot.{all-and, all_snoc, all_stops, length-segments, segments-snoc, within-total, total-snoc}
+use Rattle.std.specs.Prelude.{None, Some}
+use Rattle.segments.proofs.Slot.{four_next, within-order, within_end, all-and, all_snoc, length-segments, segments-snoc, within-total, total-snoc}
 use Rattle.extents.proofs.Words.{length-extents, extents-snoc, words_snoc, words-add, take_put}
 
 -- ---- one segment
@@ -23,9 +23,13 @@ module _ (grants : List ℕ) (operation : ℕ) (s : Segment) where
   passes-yes w f g = rw (w, lt-ltb s.frame 1024 f, g)
 
   -- 26
-  pub fails-within : is_within_frame s ≡ false → passes grants operation s ≡ false
+  pub fails_order : s.last < s.first → passes grants operation s ≡ false
   unfolding passes
-  fails-within h = rw h
+  fails_order h = rw (within-order s h)
+
+  pub fails_end : s.first ≤ s.last → 7 < s.last → passes grants operation s ≡ false
+  unfolding passes
+  fails_end a h = rw (within_end s a h)
 
   -- 27: no such frame is granted
   pub fails-frame : grant_share ≤ s.frame → passes grants operation s ≡ false
@@ -111,40 +115,17 @@ module _ (grants : List ℕ) (operation : ℕ) (start : ℕ) where
 
   -- after the last: the sectors passed over are those of the segments
   pub upto_all : (ss : List Segment) (words : List ℕ) (sector count : ℕ) → Upto grants operation start ss words sector → length ss ≤ 11
-      → start < 2 ^ 64 → (count + start) % 2 ^ 64 ≡ sector → count < 2 ^ 64 → Scanned grants operation start ss (Counted.Sectors count) words
+      → start < 2 ^ 64 → (count + start) % 2 ^ 64 ≡ sector → count < 2 ^ 64 → Scanned grants operation start ss (Some count) words
   upto_all ss words sector count u h i e l =
       let few : total_sectors ss ≤ 8 * length ss = within-total ss (passes-within grants operation ss u.passed) in
       let same : count ≡ total_sectors ss = unwrapped count (total_sectors ss) start l (omega arith) i (e ∙ u.reached) in
-      record { found = rw u.passed (ap Counted.Sectors same); front = λ _ k. u.front k }
+      record { found = rw u.passed (ap (λ (x : ℕ). Some x) same); front = λ _ k. u.front k }
 
   -- a segment that does not pass
-  pub scan_fails : (ss : List Segment) (words : List ℕ) → all (passes grants operation) ss ≡ false → Scanned grants operation start ss Counted.Fault words
+  pub scan_fails : (ss : List Segment) (words : List ℕ) → all (passes grants operation) ss ≡ false → Scanned grants operation start ss None words
   scan_fails ss words h = record { found = rw h; front = λ e. let z : ◌≡◌ {A = ℕ} 0 1 = cc in absurd (omega arith) }
 
-  -- segment i of a slot does not pass
-  pub fails-at : (l : Layout) (slot : List ℕ) (n i : ℕ) (words : List ℕ) → i < n → passes grants operation (segment_of l slot i) ≡ false
-      → Scanned grants operation start (segments_of n l slot 0) Counted.Fault words
-  fails-at l slot n i words h e =
-      scan_fails (segments_of n l slot 0) words (all_stops (passes grants operation) l slot n i h e)
-
--- ---- what a pass says
-
-found-fault : (b : Bool) (n : ℕ) → Counted.Fault ≡ cond b (Counted.Sectors n) Counted.Fault → b ≡ false
-found-fault true n e = let z : ◌≡◌ {A = ℕ} 0 1 = cc in absurd (omega arith)
-found-fault false n e = refl
-
-found-sectors : (b : Bool) (n count : ℕ) → Counted.Sectors count ≡ cond b (Counted.Sectors n) Counted.Fault → (b ≡ true) × (count ≡ n)
-found-sectors true n count e = (refl, cc)
-found-sectors false n count e = let z : ◌≡◌ {A = ℕ} 0 1 = cc in absurd (omega arith)
-
-module _ (grants : List ℕ) (operation : ℕ) (start : ℕ) (ss : List Segment) (found : Counted) (words : List ℕ) (s : Scanned grants operation start ss found words) where
-  -- some segment failed
-  pub scan-fault : found ≡ Counted.Fault → all (passes grants operation) ss ≡ false
-  scan-fault e = found-fault _ _ (sym e ∙ s.found)
-
-  -- every segment passed, and the sectors are theirs
-  pub scan-sectors : (count : ℕ) → found ≡ Counted.Sectors count → (all (passes grants operation) ss ≡ true) × (count ≡ total_sectors ss)
-  scan-sectors count e = found-sectors _ _ count (sym e ∙ s.found)
+-- ---- the words of all places
 
 -- the words of all places: the extents' in front, zeros behind
 pub words-all : (start n : ℕ) (ss : List Segment) (words : List ℕ) → length ss ≡ n → n ≤ 11
@@ -152,3 +133,6 @@ pub words-all : (start n : ℕ) (ss : List Segment) (words : List ℕ) → lengt
 words-all start n ss words l h e =
     let whole : n + (11 - n) ≡ 11 = omega arith in
     rw e (rw whole at (sym (words-add n (11 - n) (extents_from start ss) (omega (arith, length-extents start ss)))))
+
+-- for the automatic steps
+pub ruleset of_scan = (four_next, scan_fails, fails_order, fails_end, fails-frame, fails-grant)

@@ -53,7 +53,7 @@ all-fails f (suc n) l slot k (suc i) h e =
     let j : k + suc i ≡ suc k + i = omega arith in
     rw (all-fails f n l slot (suc k) i (omega arith) (rw j at e)) (and-false (f (segment_of l slot k)))
 
--- from the first on, as a loop goes: one more that passes, or one that does not
+-- from the first on: one more that passes, or one that does not
 module _ (f : Segment → Bool) (l : Layout) (slot : List ℕ) where
   pub all_more : (i : ℕ) → all f (segments_of i l slot 0) ≡ true → f (segment_of l slot i) ≡ true → all f (segments_of (i + 1) l slot 0) ≡ true
   all_more i h e = rw (segments-snoc i l slot 0, zero-add i) (all_snoc f (segments_of i l slot 0) (segment_of l slot i) h e)
@@ -61,7 +61,8 @@ module _ (f : Segment → Bool) (l : Layout) (slot : List ℕ) where
   pub all_stops : (n i : ℕ) → i < n → f (segment_of l slot i) ≡ false → all f (segments_of n l slot 0) ≡ false
   all_stops n i h e = all-fails f n l slot 0 i h (rw (zero-add i) e)
 
-  -- as a loop goes that has i behind it: a test of the rest is one of the next and of those behind it
+-- as a loop goes that has i behind it: a test of the rest is one of the next and of those behind it
+module _ (f : Segment → Bool) (l : Layout) (slot : List ℕ) where
   pub all_next : (n i : ℕ) → i < n → all f (segments_of (n - i) l slot i) ≡ f (segment_of l slot i) && all f (segments_of (n - (i + 1)) l slot (i + 1))
   unfolding all segments_of
   all_next n i h =
@@ -122,3 +123,6 @@ within-total (s ∷ ss) h =
     let one = within-sectors s (and_left (is_within_frame s) (all is_within_frame ss) h) in
     let more = within-total ss (and_right (is_within_frame s) (all is_within_frame ss) h) in
     omega arith
+
+-- for the automatic steps
+pub ruleset of_frames = (all_next, all_end, within-order, within_end, within-yes)

@@ -1,4 +1,5 @@
 -- Taking a request: the copied bytes are those of the slot that the rules name, and what a turn leaves is what the verdict on them makes due. Assumes nothing.
+use Rattle.std.proofs.Common.{Ok, Err}
 use mathlib.Core.Path.{◌≡◌, refl, sym, ap, ◌∙◌}
 use mathlib.Core.Bool.{Bool, true, false, ◌&&◌}
 use mathlib.Core.List.{List}
@@ -9,7 +10,7 @@ use Rattle.wire.specs.Part.{part}
 use Rattle.wire.proofs.Part.{part-part}
 use Rattle.model.specs.Backend.{Backend, view_of, does}
 use Rattle.model.specs.Buffers.{ports, ring_share, pages_of, grants_of}
-use Rattle.model.specs.Plan.{verdict_of, no_words, words_beside}
+use Rattle.model.specs.Plan.{Verdict, verdict_of, no_words, words_beside}
 use Rattle.model.specs.Port.{is_open, in_flight_of, distance, pending_of}
 use Rattle.model.specs.Ring.{Request, req_prod, layout_of, ring_for, ring_of, slot_at, slot_of, request_of}
 use Rattle.layout.specs.Copy.{request_in}
@@ -17,14 +18,13 @@ use Rattle.model.specs.Turn.{pages_at, pending_at, has_work, request_at, settled
 use Rattle.model.proofs.Base.{clash}
 use Rattle.model.proofs.Ring.{fits-for, slot_at-room}
 use Rattle.model.specs.declared.Abi.{Abi}
+use Rattle.model.specs.declared.Fault.{Fault}
 use Rattle.model.specs.declared.Pages.{Pages}
 use Rattle.model.specs.declared.Pair.{Pair}
 use Rattle.model.specs.declared.Pending.{Pending}
 use Rattle.model.specs.declared.Plan.{Plan}
 use Rattle.model.specs.declared.Port.{Port}
-use Rattle.model.specs.declared.Status.{Status}
 use Rattle.model.specs.declared.Turned.{Turned}
-use Rattle.model.specs.declared.Verdict.{Verdict}
 use Rattle.memory.specs.Backend.{backend_of}
 use Rattle.outcomes.specs.Outcomes.{Reads, Room, Broke, Began, Declined}
 use Rattle.serve.specs.Serve.{Turns, settled_at}
@@ -97,15 +97,15 @@ module _ (m rings grants : List ℕ) (k : ℕ) (p : Port) (o : Reads (backend_of
 
   module _ (q : Pair) (e : q ≡ (request_in slot).pair) (pages words : List ℕ) (w : words ≡ words_beside (request_in slot) v) (r : Turned)
       (left : List ℕ) where
-    pub took-declined : (n : ℕ) (s : Status) → v ≡ Verdict.Refused n s → Declined m rings k q n s pages r left
+    pub took-declined : (f : Fault) → v ≡ Err f → Declined m rings k q f pages r left
         → Turns m rings (settled_at (backend_of m) rings grants k) pages words r left
     unfolding settled does
-    took-declined n s f d = record {
-      effect = rw (settled-by, d.rings, d.answer, w, f, e);
+    took-declined f z d = record {
+      effect = rw (settled-by, d.rings, d.answer, w, z, e);
       memory = rw d.answer d.memory;
     }
 
-    pub took-started : (plan : Plan) → v ≡ Verdict.Start plan → pages ≡ rings → Began m k p q plan r left
+    pub took-started : (plan : Plan) → v ≡ Ok plan → pages ≡ rings → Began m k p q plan r left
         → Turns m rings (settled_at (backend_of m) rings grants k) pages words r left
     unfolding settled does
     took-started plan f u d = record {

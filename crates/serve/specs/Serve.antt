@@ -1,7 +1,7 @@
 -- What the steps of a turn that serves a port ask and say.
-use Rattle.std.specs.Prelude.{◌≡◌, true, List, ℕ, ◌+◌, ◌*◌, ◌<◌, length}
+use Rattle.std.specs.Prelude.{◌≡◌, true, List, ℕ, ◌+◌, ◌*◌, ◌<◌, Ok}
 use Rattle.model.specs.Backend.{Backend, view_of, with_pointer, does_all}
-use Rattle.model.specs.Buffers.{ports, ring_share, rings_length, grants_length, grants_of}
+use Rattle.model.specs.Buffers.{ports, ring_share, grants_of}
 use Rattle.model.specs.Calls.{TurnEffect}
 use Rattle.model.specs.Deeds.{turn_deeds, turn_round, moved}
 use Rattle.model.specs.Plan.{verdict_of}
@@ -10,15 +10,10 @@ use Rattle.model.specs.Turn.{pages_at, has_work, request_at, settled}
 use Rattle.model.specs.declared.Turned.{Turned}
 use Rattle.memory.specs.Backend.{backend_of, Becomes}
 
--- the buffers have the lengths that a turn asks for (rule 7.1)
-pub record Lent (rings grants : List ℕ) : Type 0 where
-  pub pages : length rings ≡ rings_length
-  pub rights : length grants ≡ grants_length
-
--- a turn's effect, and the memory that it leaves
+-- the effect of a turn that is not refused, and the memory that it leaves
 pub record Turns (m lent : List ℕ) (due : TurnEffect) (pages words : List ℕ) (r : Turned) (left : List ℕ) : Type 0 where
-  pub effect : ◌≡◌ {A = TurnEffect} (record { rings = pages; words = words; answer = r }) due
-  pub memory : Becomes m (with_pointer (does_all (backend_of m) (turn_deeds lent pages r)) (moved (turn_round lent r) (backend_of m).pointer)) left
+  pub effect : ◌≡◌ {A = TurnEffect} (record { rings = pages; words = words; answer = Ok r }) due
+  pub memory : Becomes m (with_pointer (does_all (backend_of m) (turn_deeds lent pages (Ok r))) (moved (turn_round lent (Ok r)) (backend_of m).pointer)) left
 
 -- where in the rings the slot of port k's next request starts (rules 1.3, 2.4 and 5.15)
 abbrev pub next_slot : Backend → ℕ → ℕ

@@ -7,6 +7,8 @@ use native.Mathlib.Omega.{arith}
 use lib.Dec.{eqb, ltb}
 use lib.ListN.{length, get_or}
 use borrow.Author.Tests.{ltb-true, leb-false, eqb-true, eqb-false, not-false}
+use Rattle.std.specs.Prelude.{Ok, Err}
+use Rattle.model.specs.declared.Refusal.{Refusal}
 use Rattle.model.specs.Base.{least}
 use Rattle.model.specs.Buffers.{ports, rings_length, are_rings, are_grants, pages_of, set_pages, grants_of}
 use Rattle.model.specs.Calls.{TurnEffect, all_done, CompleteEffect, most_completions}
@@ -21,7 +23,7 @@ use Rattle.model.specs.declared.Pending.{Pending}
 use Rattle.model.specs.declared.PortId.{PortId}
 use Rattle.model.specs.declared.State.{State}
 use Rattle.model.specs.declared.Turned.{Turned}
-use Rattle.model.specs.declared.Verdict.{Verdict}
+use Rattle.model.specs.Plan.{Verdict}
 use Rattle.wire.proofs.LittleEndian.{length-store}
 use Rattle.model.proofs.Base.{by_cond, and_left, least-is}
 use Rattle.model.proofs.Page.{length-pages_of, pages_of-set_pages, pages_of-other, length-set_pages, get_d-set_pages, length-responded}
@@ -63,11 +65,11 @@ module _ (v : View) (a b : List ℕ) (s : SameRings v a b) where
 
   settled_same : (k : ℕ) → pages_at v a k ≡ pages_at v b k → (r : Request) (x : Verdict) → Agrees (settled v a k r x) (settled v b k r x)
   unfolding settled notifies notifies_all
-  settled_same k e r (Verdict.Refused n z) = record {
-    answer = ap (λ (p : List ℕ). Turned.Answered (port_id k) n z (tells (v.produced k) 1 (rsp_event p))) e;
+  settled_same k e r (Err fault) = record {
+    answer = ap (λ (p : List ℕ). Ok (Turned.Answered (port_id k) fault (tells (v.produced k) 1 (rsp_event p)))) e;
     words = refl;
   }
-  settled_same k e r (Verdict.Start plan) = record { answer = refl; words = refl }
+  settled_same k e r (Ok plan) = record { answer = refl; words = refl }
 
   module _ (grants : List ℕ) where
     served-same : (k : ℕ) → pages_at v a k ≡ pages_at v b k → (d : Pending) → Agrees (served_by v a grants k d) (served_by v b grants k d)
@@ -104,24 +106,24 @@ module _ (v : View) (a b : List ℕ) (s : SameRings v a b) where
     unfolding due_turn
     due-same words = rw (s.long, s.also_long) (go (are_grants grants))
       where
-        go : (c : Bool) → Agrees (cond (not c) (record { rings = a; words = words; answer = Turned.Refused 1 }) (turned v a grants)) (cond (not c) (record { rings = b; words = words; answer = Turned.Refused 1 }) (turned v b grants))
+        go : (c : Bool) → Agrees (cond (not c) (record { rings = a; words = words; answer = Err Refusal.WrongLength }) (turned v a grants)) (cond (not c) (record { rings = b; words = words; answer = Err Refusal.WrongLength }) (turned v b grants))
         go true = turned_same
         go false = record { answer = refl; words = refl }
 
   -- what holds of both effects where they are refused alike and where they are done holds of what is due
   completion-alike : (R : CompleteEffect → CompleteEffect → Type 0) (p : PortId) (entries : List ℕ)
-      → ((n : ℕ) → R (refused_completion a n) (refused_completion b n))
+      → ((why : Refusal) → R (refused_completion a why) (refused_completion b why))
       → (p.0 < ports → is_closed (v.state p.0) ≡ false → R (completed v a p.0 (completions_in entries)) (completed v b p.0 (completions_in entries)))
       → R (due_complete v a p entries) (due_complete v b p entries)
   unfolding due_complete
   completion-alike R p entries refused done =
       let cs = completions_in entries in
       rw (s.long, s.also_long)
-      (alike R (not (are_entries entries)) _ _ _ _ (λ _. refused 1) (λ _.
-      alike R (no_port p) _ _ _ _ (λ _. refused 2) (λ l.
-      alike R (is_closed (v.state p.0)) _ _ _ _ (λ _. refused 4) (λ o.
-      alike R (ltb most_completions (length cs)) _ _ _ _ (λ _. refused 7) (λ _.
-      alike R (any_names_none (ring_at v p.0) (v.tag p.0) cs || named_twice cs) _ _ _ _ (λ _. refused 6) (λ _.
+      (alike R (not (are_entries entries)) _ _ _ _ (λ _. refused Refusal.WrongLength) (λ _.
+      alike R (no_port p) _ _ _ _ (λ _. refused Refusal.NoPort) (λ l.
+      alike R (is_closed (v.state p.0)) _ _ _ _ (λ _. refused Refusal.IsClosed) (λ o.
+      alike R (ltb most_completions (length cs)) _ _ _ _ (λ _. refused Refusal.TooMany) (λ _.
+      alike R (any_names_none (ring_at v p.0) (v.tag p.0) cs || named_twice cs) _ _ _ _ (λ _. refused Refusal.NotBusy) (λ _.
       done (leb-false _ _ l) o))))))
 
   completion-same : (p : PortId) (entries : List ℕ) → (due_complete v a p entries).answer ≡ (due_complete v b p entries).answer
@@ -129,7 +131,7 @@ module _ (v : View) (a b : List ℕ) (s : SameRings v a b) where
   completion-same p entries =
       let xs = responses_for (v.tag p.0) (completions_in entries) in
       completion-alike (λ x y. x.answer ≡ y.answer) p entries
-      (λ n. refl)
+      (λ why. refl)
       (λ small o.
       ap (λ (r : List ℕ). all_done (port_id p.0) (map (λ x. x.status) xs) (tells (v.produced p.0) (length xs) (rsp_event r))) (s.same p.0 small o))
 
@@ -201,8 +203,8 @@ module _ (v : View) where
   settle-same : (a b : List ℕ) → SameRings v a b → (k : ℕ) → k < ports → is_closed (v.state k) ≡ false → (r : Request) (x : Verdict)
       → SameRings v (settled v a k r x).rings (settled v b k r x).rings
   unfolding settled responded_at
-  settle-same a b s k small opened r (Verdict.Refused n z) = respond-same a b s k small opened (due_to r.pair z ∷ [])
-  settle-same a b s k small opened r (Verdict.Start plan) = s
+  settle-same a b s k small opened r (Err fault) = respond-same a b s k small opened (due_to r.pair fault.status ∷ [])
+  settle-same a b s k small opened r (Ok plan) = s
 
   serve-same : (a b grants : List ℕ) → SameRings v a b → (k : ℕ) → k < ports → is_closed (v.state k) ≡ false → (d : Pending)
       → SameRings v (served_by v a grants k d).rings (served_by v b grants k d).rings
@@ -234,7 +236,7 @@ module _ (v : View) where
   unfolding due_turn
   due-rings a b grants words s = rw (s.long, s.also_long) (go (are_grants grants))
     where
-      go : (c : Bool) → SameRings v (cond (not c) (record { rings = a; words = words; answer = Turned.Refused 1 }) (turned v a grants)).rings (cond (not c) (record { rings = b; words = words; answer = Turned.Refused 1 }) (turned v b grants)).rings
+      go : (c : Bool) → SameRings v (cond (not c) (record { rings = a; words = words; answer = Err Refusal.WrongLength }) (turned v a grants)).rings (cond (not c) (record { rings = b; words = words; answer = Err Refusal.WrongLength }) (turned v b grants)).rings
       go true = rings-same a b grants s
       go false = s
 
@@ -285,8 +287,8 @@ module _ (v : View) (rings : List ℕ) (sized : length rings ≡ rings_length) (
 
   settled-keeps : (k : ℕ) → k < ports → is_closed (v.state k) ≡ false → (r : Request) (x : Verdict) → Keeps (settled v rings k r x)
   unfolding settled responded_at
-  settled-keeps k small opened r (Verdict.Refused n z) = responded-keeps k small opened (due_to r.pair z ∷ [])
-  settled-keeps k small opened r (Verdict.Start plan) = refl
+  settled-keeps k small opened r (Err fault) = responded-keeps k small opened (due_to r.pair fault.status ∷ [])
+  settled-keeps k small opened r (Ok plan) = refl
 
   served-keeps : (grants : List ℕ) (k : ℕ) → k < ports → is_closed (v.state k) ≡ false → (d : Pending) → Keeps (served_by v rings grants k d)
   unfolding served_by idle overran

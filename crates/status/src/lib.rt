@@ -1,52 +1,24 @@
-// The status that a response tells the guest: by the result of the request, and as the number that the response carries.
+// The status that a request's result comes to.
 #![tactic(auto)]
 
 ghost use Rattle.std.specs.Prelude.{◌≡◌};
-ghost use Rattle.std.specs.Int.{w64};
-ghost use Rattle.std.proofs.Common.{to_z};
 ghost use Rattle.model.specs.Complete.{status_of};
-ghost use Rattle.model.specs.Ring.{status_number};
 
 use model::Status;
-use model::result::{NOT_SUPPORTED, NOT_SUPPORTED_WORD};
+use model::result::NOT_SUPPORTED;
 
-// The host's result against the count that was due. Both are widened, so that a count above 2^31 is no negative number.
-pub fn status_of(expected: u32, res: i32) -> Status
+// The host's result against the count that was due. Both are widened, so that a count above 2^31 is no negative number;
+// a result that comes as a word is one in two's complement.
+#[tactic(auto, unfolding(model::specs::Complete::status_of))]
+pub fn status_of(expected: u32, res: i64) -> Status
     ensures { result ≡ status_of expected res }
 {
-    let due = expected as i64;
-    let got = res as i64;
-    if got == due {
+    if res == i64::from(expected) {
         return Status::Okay;
     }
-    if got == NOT_SUPPORTED {
+    if res == NOT_SUPPORTED {
         Status::NotSupported
     } else {
         Status::Error
-    }
-}
-
-// The same for a result that is a word of 64 bits, in two's complement.
-pub fn word_status(expected: u32, res: u64) -> Status
-    ensures { result ≡ status_of expected (to_z w64 res) }
-{
-    if res == expected as u64 {
-        return Status::Okay;
-    }
-    if res == NOT_SUPPORTED_WORD {
-        Status::NotSupported
-    } else {
-        Status::Error
-    }
-}
-
-// The number that a response carries, below 0 for a failure.
-pub fn status_number(s: Status) -> i16
-    ensures { result ≡ status_number s }
-{
-    match s {
-        Status::Okay => 0,
-        Status::Error => -1,
-        Status::NotSupported => -2,
     }
 }

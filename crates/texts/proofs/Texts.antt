@@ -1,18 +1,14 @@
--- The laws of the body readers: two texts compared, and the tests by node. Assumes nothing.
+-- Two texts compared. Assumes nothing.
 use mathlib.Core.Path.{◌≡◌, refl, sym, ap}
 use mathlib.Core.Bool.{Bool, true, false, ◌&&◌}
 use mathlib.Core.List.{List, [], ◌∷◌}
-use Prim.Native.Nat.{ℕ, suc, ◌+◌, ◌<◌, ◌≤◌}
+use Prim.Native.Nat.{ℕ, suc, ◌+◌, ◌<◌}
 use native.Mathlib.Numerals.{add-one}
-use native.Mathlib.Omega.{arith}
 use lib.ListN.{length, get_or, drop}
 use lib.Seq.{drop-cons, drop-length}
 use lib.Dec.{eqb}
-use borrow.Author.Tests.{eq-eqb, ne_eqb, le-leb, lt-leb}
+use borrow.Author.Tests.{eq-eqb, ne_eqb}
 use Rattle.model.specs.Base.{same}
-use Rattle.model.specs.NodeSheet.{number_of, choice_body, number_body, is_allowed, protocol64, protocol32, body_of}
-
--- ---- two texts
 
 same-cons : (x y : ℕ) (xs ys : List ℕ) → x ≡ y → same (x ∷ xs) (y ∷ ys) ≡ same xs ys
 unfolding same
@@ -47,21 +43,3 @@ same-done a b i h l =
     let da : drop i a ≡ [] = rw h (drop-length a) in
     let db : drop i b ≡ [] = rw l (drop-length b) in
     rw (da, db)
-
--- ---- bodies, by node
-
-pub body-mode : (node : ℕ) (text : List ℕ) → node ≡ 1 → choice_body text (114 ∷ []) (119 ∷ []) ≡ body_of node text
-unfolding body_of
-body-mode node text e = rw (eq-eqb node 1 e)
-
-pub body-feature : (node : ℕ) (text : List ℕ) → (node ≡ 1 → ⊥) → node ≤ 5 → choice_body text (48 ∷ []) (49 ∷ []) ≡ body_of node text
-unfolding body_of
-body-feature node text n l = rw (ne_eqb node 1 n, le-leb node 5 l)
-
-pub body-protocol : (node : ℕ) (text : List ℕ) → node ≡ 8 → choice_body text protocol64 protocol32 ≡ body_of node text
-unfolding body_of
-body-protocol node text e = rw e
-
-pub body-number : (node : ℕ) (text : List ℕ) → 5 < node → (node ≡ 8 → ⊥) → number_body (is_allowed node) (number_of text) ≡ body_of node text
-unfolding body_of
-body-number node text l n = rw (ne_eqb node 1 (λ e. omega arith), lt-leb node 5 l, ne_eqb node 8 n)

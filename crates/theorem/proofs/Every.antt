@@ -9,12 +9,13 @@ use native.Mathlib.Omega.{arith}
 use lib.Dec.{ltb}
 use Rattle.model.specs.Backend.{Backend, view_of, with_port, with_tag, with_pointer, broken_port, started_port, answered_port, finished_port, does, does_all, next}
 use Rattle.model.specs.Buffers.{ports, grants_of, are_rings, are_grants}
-use Rattle.model.specs.Calls.{Call, Open, Close, Turn, Complete, TurnEffect, CompleteAnswer, none_done, all_done, Effect}
+use Rattle.std.specs.Prelude.{Result, Ok, Err}
+use Rattle.model.specs.Calls.{Reply, Call, Open, Close, Turn, Complete, TurnEffect, CompleteAnswer, none_done, all_done, Effect}
 use Rattle.model.specs.Complete.{Completion, completions_in, expected_of}
 use Rattle.model.specs.Deeds.{port_after, params_in, finishings, deeds}
 use Rattle.model.specs.Demand.{All, IsBytes, LendsBytes}
 use Rattle.model.specs.NodeSheet.{sheet_of}
-use Rattle.model.specs.Plan.{verdict_of}
+use Rattle.model.specs.Plan.{Verdict, verdict_of}
 use Rattle.model.specs.Port.{View, Holder, after, in_flight_of, closed_port, open_port, zero_tag}
 use Rattle.model.specs.Ring.{Ring, ring_for, ring_of}
 use Rattle.model.specs.Rules.{due_turn, names_none, any_names_none, effect_due}
@@ -22,11 +23,10 @@ use Rattle.model.specs.Turn.{ring_at, serial_of, pending_at, request_at, idle, s
 use Rattle.model.specs.declared.Pending.{Pending}
 use Rattle.model.specs.declared.Port.{Port}
 use Rattle.model.specs.declared.PortId.{PortId}
-use Rattle.model.specs.declared.Reply.{Reply}
+use Rattle.model.specs.declared.Refusal.{Refusal}
 use Rattle.model.specs.declared.Status.{Status}
 use Rattle.model.specs.declared.Tag.{Tag}
 use Rattle.model.specs.declared.Turned.{Turned}
-use Rattle.model.specs.declared.Verdict.{Verdict}
 use Rattle.model.proofs.Base.{by_cond, or_left, or_right}
 use Rattle.model.proofs.Completions.{names-one}
 use Rattle.model.proofs.DueFacts.{chosen-lt, Started, OpenFacts, CloseFacts, TurnFacts, CompleteFacts, facts, waits-room}
@@ -45,12 +45,12 @@ use Rattle.completion.proofs.Completions.{does-pointer, pointer-kept}
 
 -- ---- a plan's expected result fits its word
 
-abbrev FitsPlan : Turned → Type 0
-FitsPlan (Turned.Refused n) = Unit
-FitsPlan Turned.Idle = Unit
-FitsPlan (Turned.Overrun p) = Unit
-FitsPlan (Turned.Started p t s plan) = expected_of plan < 2 ^ 32
-FitsPlan (Turned.Answered p n z y) = Unit
+abbrev FitsPlan : Result Turned Refusal → Type 0
+FitsPlan (Err why) = Unit
+FitsPlan (Ok Turned.Idle) = Unit
+FitsPlan (Ok (Turned.Overrun p)) = Unit
+FitsPlan (Ok (Turned.Started p t s plan)) = expected_of plan < 2 ^ 32
+FitsPlan (Ok (Turned.Answered p f y)) = Unit
 
 abbrev FitsIn : TurnEffect → Type 0
 FitsIn e = FitsPlan e.answer
@@ -58,8 +58,8 @@ FitsIn e = FitsPlan e.answer
 settled-fits : (v : View) (rings grants : List ℕ) (k : ℕ) (x : Verdict) → verdict_of (v.params k) (grants_of grants k) (request_at v rings k) ≡ x
     → FitsIn (settled v rings k (request_at v rings k) x)
 unfolding settled request_at ring_for
-settled-fits v rings grants k (Verdict.Refused n s) e = tt
-settled-fits v rings grants k (Verdict.Start plan) e = expected-fits (v.params k) _ (grants_of grants k) _ plan e
+settled-fits v rings grants k (Err f) e = tt
+settled-fits v rings grants k (Ok plan) e = expected-fits (v.params k) _ (grants_of grants k) _ plan e
 
 served-fits : (v : View) (rings grants : List ℕ) (k : ℕ) (x : Pending) → FitsIn (served_by v rings grants k x)
 unfolding served_by idle overran
@@ -95,16 +95,16 @@ module _ (m : List ℕ) (x : Exact m) where
 
   leaves-open : (p : PortId) (sheet : List ℕ) (e : Reply) → OpenFacts (view_of (backend_of m)) p e → Leaves m (Open p sheet) e
   unfolding next does with_port with_pointer
-  leaves-open p sheet (Reply.Refused i) f = none (Reply.Refused i) (unchanged m)
-  leaves-open p sheet Reply.Done f =
-      one-deed Reply.Done (some-port m x p.0 f.0 (open_port (params_in (sheet_of sheet))) (record { consumed = omega arith; produced = omega arith })) (λ z.
+  leaves-open p sheet (Err why) f = none (Err why) (unchanged m)
+  leaves-open p sheet (Ok done) f =
+      one-deed (Ok done) (some-port m x p.0 f.0 (open_port (params_in (sheet_of sheet))) (record { consumed = omega arith; produced = omega arith })) (λ z.
       let w : ◌≡◌ {A = ℕ} 0 1 = cc in omega arith)
 
   leaves-close : (p : PortId) (e : Reply) → CloseFacts (view_of (backend_of m)) p e → Leaves m (Close p) e
   unfolding next does with_port with_pointer
-  leaves-close p (Reply.Refused i) f = none (Reply.Refused i) (unchanged m)
-  leaves-close p Reply.Done f =
-      one-deed Reply.Done (some-port m x p.0 f.0 closed_port (record { consumed = omega arith; produced = omega arith })) (λ z.
+  leaves-close p (Err why) f = none (Err why) (unchanged m)
+  leaves-close p (Ok done) f =
+      one-deed (Ok done) (some-port m x p.0 f.0 closed_port (record { consumed = omega arith; produced = omega arith })) (λ z.
       let w : ◌≡◌ {A = ℕ} 0 1 = cc in omega arith)
 
   -- a started request has room, so its tag is one that there is
@@ -135,33 +135,33 @@ module _ (m : List ℕ) (x : Exact m) where
   tagged : (k t : ℕ) → k < ports → t < tags → (y : Tag) → RangedTag y → (q : Port) → Ranged q → Some m (with_port (with_tag (backend_of m) k t y) k q)
   tagged k t h l y r q s = some_then (λ (b : Backend). with_port b k q) x (some-tag m x k h t l y r) (λ o e. some-port o e k h q s)
 
-  leaves-turn : (rings grants words pages filled : List ℕ) (r : Turned) → IsBytes rings → TurnFacts (view_of (backend_of m)) rings pages r → FitsPlan r
+  leaves-turn : (rings grants words pages filled : List ℕ) (r : Result Turned Refusal) → IsBytes rings → TurnFacts (view_of (backend_of m)) rings pages r → FitsPlan r
       → Leaves m (Turn rings grants words) (record { rings = pages; words = filled; answer = r })
   unfolding next does
-  leaves-turn rings grants words pages filled (Turned.Refused i) y f o = none (record { rings = pages; words = filled; answer = Turned.Refused i }) (stays m)
-  leaves-turn rings grants words pages filled Turned.Idle y f o = none (record { rings = pages; words = filled; answer = Turned.Idle }) (stays m)
-  leaves-turn rings grants words pages filled (Turned.Overrun p) y f o =
+  leaves-turn rings grants words pages filled (Err why) y f o = none (record { rings = pages; words = filled; answer = Err why }) (stays m)
+  leaves-turn rings grants words pages filled (Ok Turned.Idle) y f o = none (record { rings = pages; words = filled; answer = Ok Turned.Idle }) (stays m)
+  leaves-turn rings grants words pages filled (Ok (Turned.Overrun p)) y f o =
       let k = p.0 in
       let q = (backend_of m).port k in
       let h = chosen-lt f in
-      one-deed (record { rings = pages; words = filled; answer = Turned.Overrun p })
+      one-deed (record { rings = pages; words = filled; answer = Ok (Turned.Overrun p) })
       (pointed _ (some-port m x k h (broken_port q) (record { consumed = (backend-ranged m k).consumed; produced = (backend-ranged m k).produced })) k) (λ z.
       let w : ◌≡◌ {A = ℕ} 0 1 = cc in omega arith)
-  leaves-turn rings grants words pages filled (Turned.Answered p i z b) y f o =
+  leaves-turn rings grants words pages filled (Ok (Turned.Answered p a b)) y f o =
       let k = p.0 in
       let q = (backend_of m).port k in
       let h = chosen-lt f.choice in
-      one-deed (record { rings = pages; words = filled; answer = Turned.Answered p i z b })
+      one-deed (record { rings = pages; words = filled; answer = Ok (Turned.Answered p a b) })
       (pointed _ (some-port m x k h (answered_port q) (record { consumed = index-lt q.consumed; produced = index-lt q.produced })) k) (λ e.
       let w : ◌≡◌ {A = ℕ} 0 1 = cc in omega arith)
-  leaves-turn rings grants words pages filled (Turned.Started p t s plan) y f o =
+  leaves-turn rings grants words pages filled (Ok (Turned.Started p t s plan)) y f o =
       let k = p.0 in
       let q = (backend_of m).port k in
       let h = chosen-lt f.choice in
       let pair = (request_at (view_of (backend_of m)) rings k).pair in
       let x : Tag = record { pair = pair; serial = serial_of s.0; expected = expected_of plan } in
       let r : RangedTag x = record { operation = operation-fits rings k y; serial = serial-fits rings k t.0 s.0 f; expected = o } in
-      one-deed (record { rings = pages; words = filled; answer = Turned.Started p t s plan })
+      one-deed (record { rings = pages; words = filled; answer = Ok (Turned.Started p t s plan) })
       (pointed _
       (tagged k t.0 h (tag-lt rings k t.0 s.0 f) x r (started_port q t.0)
       (record { consumed = index-lt q.consumed; produced = (backend-ranged m k).produced }))

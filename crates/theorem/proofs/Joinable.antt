@@ -12,11 +12,10 @@ use Rattle.model.specs.Base.{all}
 use Rattle.model.specs.Checks.{max_segments, is_within_frame, sectors_in, total_sectors, count_of, wrong_segment, past_end, operation_checks, segment_checks, disk_checks, checks, first_failed}
 use Rattle.model.specs.Plan.{Extent, extents_from, extents_of, extent_words, plan_of, verdict_of, words_beside}
 use Rattle.model.specs.Ring.{Layout, Request, segments_of, request_of}
-use Rattle.model.specs.declared.Checked.{Checked}
 use Rattle.model.specs.declared.Params.{Params}
 use Rattle.model.specs.declared.Plan.{Plan}
 use Rattle.model.specs.declared.Segment.{Segment}
-use Rattle.model.specs.declared.Verdict.{Verdict}
+use Rattle.std.specs.Prelude.{Ok}
 use Rattle.model.proofs.Base.{and_left, and_right}
 use Rattle.extents.proofs.Words.{length-extents, length-words}
 use Rattle.checks.proofs.Steps.{none-fails, all-passed}
@@ -83,11 +82,11 @@ passes : (es : List Extent) → length es ≤ max_segments → are_sound (map ba
 unfolding is_no_plan
 passes es h s = rw (length-words max_segments es, as_read max_segments es h, s, le-ltb 11 (length es) h)
 
-module _ (p : Params) (l : Layout) (grants slot : List ℕ) (plan : Plan) (disk : p.sectors < 2 ^ 64) (e : verdict_of p grants (request_of l slot) ≡ Verdict.Start plan) where
+module _ (p : Params) (l : Layout) (grants slot : List ℕ) (plan : Plan) (disk : p.sectors < 2 ^ 64) (e : verdict_of p grants (request_of l slot) ≡ Ok plan) where
   abbrev r : Request
   r = request_of l slot
 
-  passed : first_failed (checks p grants r) ≡ Checked.Passed
+  passed : first_failed (checks p grants r) ≡ Ok tt
   passed = (all-passed p grants r plan e).0
 
   within : (r.pair.operation ≡ 5 → ⊥) → all is_within_frame r.segments ≡ true

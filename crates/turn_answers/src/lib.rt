@@ -1,13 +1,12 @@
 // A turn's answer as the words and the number that C reads.
 #![tactic(auto)]
 
-ghost use Rattle.std.specs.Prelude.{◌≡◌, [], ◌∷◌};
+ghost use Rattle.std.specs.Prelude.{◌≡◌, replicate};
 ghost use Rattle.model.specs.Answers.{turned_number, turned_words, extents_in, turn_answer, turn_left};
-ghost use Rattle.model.specs.declared.Turned.{Turned as Answer};
 
-use answers::{magnitude, seen, yes_no};
-use model::buffer::TURN_WORDS;
-use model::{Plan, PortId, Serial, Status, TagId, Turned};
+use answers::magnitude;
+use model::buffer::{TURN_EXTENTS, TURN_EXTENTS_END, TURN_WORDS};
+use model::{Refusal, Turned};
 
 // Which word of the answer is which.
 pub const KIND: usize = 0;
@@ -43,122 +42,55 @@ pub const ANSWERED: u64 = 2;
 
 pub const OVERRUN: u64 = 3;
 
-// Every word of a turn's answer but those of the extents, which the turn has written.
-fn put_values(
-    answer: &mut [u64; TURN_WORDS],
-    kind: u64,
-    port: u64,
-    tag: u64,
-    serial: u64,
-    operation: u64,
-    start: u64,
-    count: u64,
-    secure: u64,
-    extents: u64,
-    reason: u64,
-    status: u64,
-    notify: u64,
-)
-    ensures { answer.new ≡ turn_answer (kind ∷ port ∷ tag ∷ serial ∷ operation ∷ start ∷ count ∷ secure ∷ extents ∷ reason ∷ status ∷ notify ∷ []) (extents_in answer.old) }
+// Zeros in every word but those of the extents, which the turn has written.
+fn clear_values(answer: &mut [u64; TURN_WORDS])
+    ensures { answer.new ≡ turn_answer (replicate 12 0) (extents_in answer.old) }
 {
-    seen(answer);
-    answer[KIND] = kind;
-    answer[PORT] = port;
-    answer[TAG] = tag;
-    answer[SERIAL] = serial;
-    answer[OPERATION] = operation;
-    answer[START] = start;
-    answer[COUNT] = count;
-    answer[SECURE] = secure;
-    answer[EXTENT_COUNT] = extents;
-    answer[REASON] = reason;
-    answer[STATUS] = status;
-    answer[NOTIFY] = notify;
-    // Words that no kind uses stand on both sides of the extents.
-    answer[12] = 0;
-    answer[13] = 0;
-    answer[14] = 0;
-    answer[15] = 0;
-    answer[60] = 0;
-    answer[61] = 0;
-    answer[62] = 0;
-    answer[63] = 0;
+    answer[..TURN_EXTENTS].fill(0);
+    answer[TURN_EXTENTS_END..].fill(0);
 }
 
-fn put_started(answer: &mut [u64; TURN_WORDS], port: PortId, tag: TagId, serial: Serial, plan: Plan)
-    ensures { answer.new ≡ turn_answer (turned_words (Answer.Started port tag serial plan)) (extents_in answer.old) }
+// The values of what a turn did, around the extents; a value that its kind has no use for is 0.
+fn put_values(answer: &mut [u64; TURN_WORDS], did: Turned)
+    ensures { answer.new ≡ turn_answer (turned_words did) (extents_in answer.old) }
 {
-    put_values(
-        answer,
-        STARTED,
-        port.0 as u64,
-        tag.0 as u64,
-        serial.0 as u64,
-        plan.operation as u64,
-        plan.start,
-        plan.count,
-        yes_no(plan.secure),
-        plan.extents,
-        0,
-        0,
-        0,
-    );
-}
-
-fn put_answered(
-    answer: &mut [u64; TURN_WORDS],
-    port: PortId,
-    reason: u32,
-    status: Status,
-    notify: bool,
-)
-    ensures { answer.new ≡ turn_answer (turned_words (Answer.Answered port reason status notify)) (extents_in answer.old) }
-{
-    put_values(
-        answer,
-        ANSWERED,
-        port.0 as u64,
-        0,
-        0,
-        0,
-        0,
-        0,
-        0,
-        0,
-        reason as u64,
-        magnitude(status),
-        yes_no(notify),
-    );
-}
-
-// An answer that is no more than a kind and a port.
-fn put_kind(answer: &mut [u64; TURN_WORDS], kind: u64, port: u64)
-    ensures { answer.new ≡ turn_answer (kind ∷ port ∷ 0 ∷ 0 ∷ 0 ∷ 0 ∷ 0 ∷ 0 ∷ 0 ∷ 0 ∷ 0 ∷ 0 ∷ []) (extents_in answer.old) }
-{
-    put_values(answer, kind, port, 0, 0, 0, 0, 0, 0, 0, 0, 0, 0);
+    clear_values(answer);
+    match did {
+        Turned::Idle => answer[KIND] = IDLE,
+        Turned::Overrun(port) => {
+            answer[KIND] = OVERRUN;
+            answer[PORT] = u64::from(port.0);
+        }
+        Turned::Started(port, tag, serial, plan) => {
+            answer[KIND] = STARTED;
+            answer[PORT] = u64::from(port.0);
+            answer[TAG] = u64::from(tag.0);
+            answer[SERIAL] = u64::from(serial.0);
+            answer[OPERATION] = u64::from(plan.operation);
+            answer[START] = plan.start;
+            answer[COUNT] = plan.count;
+            answer[SECURE] = u64::from(plan.secure);
+            answer[EXTENT_COUNT] = plan.extents;
+        }
+        Turned::Answered(port, fault, notify) => {
+            answer[KIND] = ANSWERED;
+            answer[PORT] = u64::from(port.0);
+            answer[REASON] = u64::from(u32::from(fault.reason));
+            answer[STATUS] = magnitude(fault.status);
+            answer[NOTIFY] = u64::from(notify);
+        }
+    }
 }
 
 // The answer of a turn as words, around the extents that it wrote, and the number to return.
-pub fn put_turned(answer: &mut [u64; TURN_WORDS], turned: Turned) -> u32
+pub fn put_turned(answer: &mut [u64; TURN_WORDS], turned: Result<Turned, Refusal>) -> u32
     ensures { (result ≡ turned_number turned) × (answer.new ≡ turn_left turned answer.old (extents_in answer.old)) }
 {
     match turned {
-        Turned::Refused(n) => n,
-        Turned::Idle => {
-            put_kind(answer, IDLE, 0);
+        Ok(did) => {
+            put_values(answer, did);
             0
         }
-        Turned::Started(port, tag, serial, plan) => {
-            put_started(answer, port, tag, serial, plan);
-            0
-        }
-        Turned::Answered(port, reason, status, notify) => {
-            put_answered(answer, port, reason, status, notify);
-            0
-        }
-        Turned::Overrun(port) => {
-            put_kind(answer, OVERRUN, port.0 as u64);
-            0
-        }
+        Err(refusal) => u32::from(refusal),
     }
 }

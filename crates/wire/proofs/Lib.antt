@@ -1,3 +1,2 @@
 pub mod LittleEndian
 pub mod Part
-pub mod Signed

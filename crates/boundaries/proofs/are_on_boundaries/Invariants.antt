@@ -1,5 +1,5 @@
 -- All segments are on boundaries where those from i on are.
-use Rattle.std.proofs.Common.{◌≡◌, ◌-◌, ◌≤◌}
+use Rattle.std.proofs.Common.{◌≡◌, ◌-◌}
 use Rattle.model.specs.Base.{all}
 use Rattle.model.specs.Checks.{is_on_boundaries}
 use Rattle.model.specs.Ring.{segments_of}
@@ -7,10 +7,5 @@ use Rattle.layout.specs.Copy.{copy_layout}
 use Rattle.boundaries.proofs.are_on_boundaries.Given as goal
 
 abbrev pub invariant-loop-i : goal.invariant-loop-i
-invariant-loop-i l = record {
-  in_range : l.i ≤ l.n;
-  rest : all (is_on_boundaries l.sector) (segments_of l.n copy_layout l.slot 0) ≡ all (is_on_boundaries l.sector) (segments_of (l.n - l.i) copy_layout l.slot l.i);
-}
-
-abbrev pub decreases-loop-i : goal.decreases-loop-i
-decreases-loop-i l = l.n - l.i
+invariant-loop-i l =
+    all (is_on_boundaries l.sector) (segments_of l.n copy_layout l.slot 0) ≡ all (is_on_boundaries l.sector) (segments_of (l.n - l.i) copy_layout l.slot l.i)

@@ -1,19 +1,37 @@
--- `completion::complete` meets its promise, by the state of the port.
-use native.Mathlib.Omega.{arith}
-use Rattle.completion.proofs.Completions.{complete-wrong-length, complete-no-port, complete-closed}
+-- `completion::complete` meets its promise, by the rings' length and the state of the port.
+use mathlib.Core.Path.{subst}
+use mathlib.Core.List.{List}
+use Prim.Native.Nat.{ℕ}
+use mir.Syntax.{w32}
+use mir.ValLaws.{to_z-of_z}
+use Rattle.std.proofs.lemmas.Result.{err_from_is_err_and}
+use Rattle.model.specs.Calls.{Complete}
+use Rattle.model.specs.Complete.{the_one, of_one}
+use Rattle.memory.specs.Backend.{backend_of}
+use Rattle.memory.specs.Promise.{Promised}
+use Rattle.completion.proofs.Completions.{complete-wrong-length, complete-unused, in-use}
 use Rattle.completion.proofs.complete.Goals as goal
 
-pub returns-then-rings-ne-RINGS_BYTES : goal.returns-then-rings-ne-RINGS_BYTES
-returns-then-rings-ne-RINGS_BYTES c =
+pub returns-in_default : goal.returns-in_default
+returns-in_default c =
     let a = c.args in
-    complete-wrong-length a.memory.now a.rings.now a.port a.tag a.serial a.res c.ranges.res c.if-rings-ne-RINGS_BYTES.true
+    complete-wrong-length a.memory.now a.rings.now a.port a.tag a.serial a.res c.ranges.res c.in_default.ensures.cases
 
-pub returns-then-k-ge-PORTS : goal.returns-then-k-ge-PORTS
-returns-then-k-ge-PORTS c =
+pub returns-in_err-k : goal.returns-in_err-k
+returns-in_err-k c =
     let a = c.args in
-    complete-no-port a.memory.now a.rings.now a.port a.tag a.serial a.res c.ranges.res (omega arith) (omega (arith, c.if-k-ge-PORTS.true))
+    let p = err_from_is_err_and c.from_residual.result c.from_residual.ensures.1 in
+    let whole = c.in-Some.ensures.cases in
+    rw (p.1, p.2, whole.same)
+    (complete-unused a.memory.now a.rings.now a.port a.tag a.serial a.res c.ranges.res whole.long _ c.in_err-k.ensures)
 
-pub returns-in-Closed : goal.returns-in-Closed
-returns-in-Closed c =
+pub complete_named-requires : goal.complete_named-requires
+complete_named-requires c = rw c.in_ok-k.ensures.0 (in-use (backend_of c.args.memory.now) c.args.port c.in_ok-k.ensures.1).opened
+
+pub returns : goal.returns
+returns c =
     let a = c.args in
-    complete-closed a.memory.now a.rings.now a.port a.tag a.serial a.res c.ranges.res (omega arith) (omega arith) (rw (← c.state-state.ensures, c.in-Closed.is))
+    subst
+    (λ (rings : List ℕ). Promised a.memory.now (Complete rings a.port (the_one a.tag a.serial a.res))
+    (record { rings = c.complete_named.new.rings; answer = of_one c.complete_named.result }) c.complete_named.new.memory)
+    c.in-Some.ensures.cases.same (rw (to_z-of_z w32 a.res c.ranges.res, c.in_ok-k.ensures.0) at c.complete_named.ensures)

@@ -1,22 +1,14 @@
--- `contents::well_formed` meets its contract: a law for each way out. Assumes nothing.
+-- `contents::well_formed` meets its contract: the bodies end the sheet if they are as long as all behind the table of contents. Assumes nothing.
+use Rattle.std.proofs.Common.{length}
+use Rattle.contents.proofs.Entries.{formed-ends}
 use Rattle.contents.proofs.well_formed.Goals as goal
-use mathlib.Core.Path.{sym, ◌∙◌}
+use mathlib.Core.Path.{sym, ap, ◌∙◌}
 use native.Mathlib.Omega.{arith}
-use Rattle.contents.proofs.Entries.{formed-empty, formed-many, formed-cut, formed-unclear, formed-ends}
+use Rattle.model.specs.Base.{all}
+use Rattle.contents.specs.Contents.{is_clear}
 
-pub returns-then-sheet-eq0 : goal.returns-then-sheet-eq0
-returns-then-sheet-eq0 c = formed-empty c.args.sheet.now c.if-sheet-eq0.true
-
-pub returns-then-count-gt-MOST_ENTRIES : goal.returns-then-count-gt-MOST_ENTRIES
-returns-then-count-gt-MOST_ENTRIES c = formed-many c.args.sheet.now (omega arith) (omega arith)
-
-pub returns-then-sheet-count : goal.returns-then-sheet-count
-returns-then-sheet-count c = formed-cut c.args.sheet.now (omega arith) (omega arith)
-
-pub returns-then-not-reserved_clear : goal.returns-then-not-reserved_clear
-returns-then-not-reserved_clear c =
-    formed-unclear c.args.sheet.now (omega arith) (omega arith) (sym c.reserved_clear.ensures ∙ c.if-not-reserved_clear.true)
-
-pub returns : goal.returns
-returns c =
-    rw c.bodies_end.ensures (formed-ends c.args.sheet.now (omega arith) (omega arith) (sym c.reserved_clear.ensures ∙ c.if-not-reserved_clear.false))
+pub returns-then-reserved_clear : goal.returns-then-reserved_clear
+returns-then-reserved_clear c =
+    let clear = ap (all is_clear) (sym c.of-table.ensures.entries) ∙ sym c.if-reserved_clear.ensures in
+    let end = rw (← c.total_length.ensures) at c.of-table.ensures.end in
+    formed-ends c.args.sheet.now (omega arith) (omega arith) c.total_length.result (length c.of-table.result.bodies.now) clear end c.of-table.ensures.whole

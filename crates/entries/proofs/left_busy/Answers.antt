@@ -1,4 +1,4 @@
--- `entries::left_busy` meets its contract. The loop's invariant: what is left of the pass comes to what the whole of it does, in a ring of either layout.
+-- `entries::left_busy` meets its contract, entry by entry (FirstPass).
 use native.Mathlib.Omega.{arith}
 use mathlib.Core.Path.{◌≡◌, sym, ap, ◌∙◌}
 use borrow.Author.Tests.{not-true, not-false}
@@ -32,41 +32,49 @@ goes_on keep pages left tag serial h =
     let n = names-one g _ _ _ (none keep pages left tag serial h Abi.Bits64) in
     (omega (arith, n.small, (fits-for Abi.Bits64 pages).marked), busy-named g keep left _ n.holding n.holds)
 
-pub loop-i-init : goal.loop-i-init
-loop-i-init c =
+pub loop-entry-init : goal.loop-entry-init
+loop-entry-init c =
     let a = c.args in
-    (omega arith, omega arith, λ abi. ap (left_of (ring_for abi a.pages) ((backend_of a.memory.now).tag a.k) a.busy) (from_first a.entries.now))
+    record {
+      read = c.as_chunks.ensures.front;
+      left = λ abi. ap (left_of (ring_for abi a.pages) ((backend_of a.memory.now).tag a.k.index) a.busy) (from_first a.entries.now);
+    }
 
 pub returns-then-not-names_busy : goal.returns-then-not-names_busy
 returns-then-not-names_busy c abi =
     let a = c.args in
-    let l = c.loop-i in
-    left-stops (ring_for abi a.pages) ((backend_of a.memory.now).tag a.k) l.left (length a.entries.now / entry_words) a.entries.now l.i (omega arith)
-    (not-false _ (sym (c.if-not-names_busy.ensures abi)))
-    ∙ l.invariant.2 abi
+    let l = c.loop-entry in
+    left-stops (ring_for abi a.pages) ((backend_of a.memory.now).tag a.k.index) l.left (length a.entries.now / entry_words) a.entries.now _ l.invariant.read l.entry-index
+    (omega (arith, c.as_chunks.ensures.front_len)) (not-false _ (sym (c.if-not-names_busy.ensures abi)))
+    ∙ l.invariant.left abi
 
 pub overflow_cast-tag : goal.overflow_cast-tag
 overflow_cast-tag c =
     let a = c.args in
-    record { fits = omega (arith, (goes_on ((backend_of a.memory.now).tag a.k) a.pages c.loop-i.left _ _ c.if-not-names_busy.ensures).0) }
+    record { fits = omega (arith, (goes_on ((backend_of a.memory.now).tag a.k.index) a.pages c.loop-entry.left _ _ c.if-not-names_busy.ensures).0) }
+
+pub new-requires : goal.new-requires
+new-requires c = (goes_on ((backend_of c.args.memory.now).tag c.args.k.index) c.args.pages c.loop-entry.left _ _ c.if-not-names_busy.ensures).0
 
 pub clear_mark-left-requires : goal.clear_mark-left-requires
-clear_mark-left-requires c = goes_on ((backend_of c.args.memory.now).tag c.args.k) c.args.pages c.loop-i.left _ _ c.if-not-names_busy.ensures
+clear_mark-left-requires c = rw c.new.ensures (goes_on ((backend_of c.args.memory.now).tag c.args.k.index) c.args.pages c.loop-entry.left _ _ c.if-not-names_busy.ensures).1
 
-pub loop-i-preserved : goal.loop-i-preserved
-loop-i-preserved c =
+pub loop-entry-preserved : goal.loop-entry-preserved
+loop-entry-preserved c =
     let a = c.args in
-    let l = c.loop-i in
-    let keep = (backend_of a.memory.now).tag a.k in (
-      omega arith,
-      omega arith,
-      λ abi.
-          rw c.clear_mark-left.ensures
-          (left-goes (ring_for abi a.pages) keep l.left (length a.entries.now / entry_words) a.entries.now l.i (omega arith) (none keep a.pages l.left _ _ c.if-not-names_busy.ensures abi)
-          ∙ l.invariant.2 abi),
-    )
+    let l = c.loop-entry in
+    let keep = (backend_of a.memory.now).tag a.k.index in
+    record {
+      read = l.invariant.read;
+      left = λ abi.
+          rw (c.clear_mark-left.ensures, c.new.ensures)
+          (left-goes (ring_for abi a.pages) keep l.left (length a.entries.now / entry_words) a.entries.now _ l.invariant.read l.entry-index
+          (omega (arith, c.as_chunks.ensures.front_len)) (none keep a.pages l.left _ _ c.if-not-names_busy.ensures abi)
+          ∙ l.invariant.left abi);
+    }
 
 pub returns : goal.returns
 returns c abi =
     let a = c.args in
-    left-ends (ring_for abi a.pages) ((backend_of a.memory.now).tag a.k) c.loop-i.left (length a.entries.now / entry_words) a.entries.now c.loop-i.i (omega arith) ∙ c.loop-i.invariant.2 abi
+    left-ends (ring_for abi a.pages) ((backend_of a.memory.now).tag a.k.index) c.loop-entry.left (length a.entries.now / entry_words) a.entries.now c.loop-entry.entry-index
+    (omega (arith, c.as_chunks.ensures.front_len, c.loop-entry-test.false)) ∙ c.loop-entry.invariant.left abi

@@ -1,24 +1,19 @@
 -- `guest::publish` meets its contract. Assumes nothing.
-use Rattle.std.proofs.Common.{eqb, ℕ}
+use Rattle.std.proofs.Common.{◌+◌, ◌-◌, ℕ, eqb, ap, arith}
 use Rattle.model.specs.Port.{after}
-use Rattle.model.specs.Ring.{req_event}
+use Rattle.model.specs.Ring.{slot_bytes, req_event, set_req_prod}
 use Rattle.guest.specs.Guest.{put_page}
 use Rattle.guest.proofs.publish.Goals as goal
-use mathlib.Core.Path.{ap}
-use native.Mathlib.Omega.{arith}
-use Rattle.guest.proofs.Pages.{slot-room, event-put}
-
-pub put_slot-requires : goal.put_slot-requires
-put_slot-requires c = omega (arith, slot-room c.args.i, c.slot_at.ensures)
+use Rattle.guest.proofs.Pages.{part_put, event-put}
 
 pub returns : goal.returns
-unfolding put_page req_event
+unfolding put_page set_req_prod req_event
 returns c =
-    let stored = c.put_req_prod.ensures in
-    let put = c.put_slot.ensures.0 in
-    let whole = c.put_slot.ensures.1 in
-    let at = c.slot_at.ensures in
+    let page = c.args.page.now in
+    let put = part_put page c.slot_at-at.result (c.slot_at-at.result + slot_bytes - c.slot_at-at.result) c.args.slot.now (omega arith) in
+    let stored = c.store.ensures in
     let next = c.next_index-next.ensures in (
-      rw (stored, put, at, next),
-      rw (c.u32_at.ensures, stored, put, at, next) (ap (λ (v : ℕ). eqb v (after c.args.i)) (event-put c.args.page.now (omega arith) c.args.i c.args.slot.now whole)),
+      rw (stored, c.copy_from_slice.ensures.after, put, c.slot_at-at.ensures, next),
+      rw (c.load.ensures, stored, c.copy_from_slice.ensures.after, put, c.slot_at-at.ensures, next)
+          (ap (λ (v : ℕ). eqb v (after c.args.i)) (event-put page (omega arith) c.args.i c.args.slot.now (omega arith))),
     )

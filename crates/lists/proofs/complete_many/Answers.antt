@@ -1,24 +1,40 @@
--- `lists::complete_many` meets its promise, by the state of the port.
+-- `lists::complete_many` meets its promise, by the rings' length, the words' and the state of the port.
 use native.Mathlib.Omega.{arith}
-use Rattle.lists.proofs.Ways.{list-wrong-rings, list-wrong-words, list-no-port, list-closed}
+use mathlib.Core.Path.{subst}
+use mathlib.Core.List.{List}
+use Prim.Native.Nat.{ℕ}
+use Rattle.std.proofs.lemmas.Result.{err_from_is_err_and}
+use Rattle.completion.proofs.Completions.{in-use}
+use Rattle.memory.specs.Backend.{backend_of}
+use Rattle.lists.specs.List.{ManyPromised}
+use Rattle.lists.proofs.Ways.{list-wrong-rings, list-wrong-words, list-unused}
 use Rattle.lists.proofs.complete_many.Goals as goal
 
-pub returns-then-rings-ne-RINGS_BYTES : goal.returns-then-rings-ne-RINGS_BYTES
-returns-then-rings-ne-RINGS_BYTES c =
+pub returns-in_default : goal.returns-in_default
+returns-in_default c =
     let a = c.args in
-    list-wrong-rings a.memory.now a.rings.now a.port a.entries.now a.answer.now c.if-rings-ne-RINGS_BYTES.true
+    list-wrong-rings a.memory.now a.rings.now a.port a.entries.now a.answer.now c.in_default.ensures.cases
 
 pub returns-then-entries-ne0 : goal.returns-then-entries-ne0
 returns-then-entries-ne0 c =
     let a = c.args in
-    list-wrong-words a.memory.now a.rings.now a.port a.entries.now a.answer.now (omega arith) c.if-entries-ne0.true
+    let whole = c.in-Some.ensures.cases in
+    rw whole.same (list-wrong-words a.memory.now a.rings.now a.port a.entries.now a.answer.now whole.long c.if-entries-ne0.true)
 
-pub returns-then-k-ge-PORTS : goal.returns-then-k-ge-PORTS
-returns-then-k-ge-PORTS c =
+pub returns-in_err-k : goal.returns-in_err-k
+returns-in_err-k c =
     let a = c.args in
-    list-no-port a.memory.now a.rings.now a.port a.entries.now a.answer.now (omega arith) (omega arith) (omega (arith, c.if-k-ge-PORTS.true))
+    let p = err_from_is_err_and c.from_residual.result c.from_residual.ensures.1 in
+    let whole = c.in-Some.ensures.cases in
+    rw (p.1, p.2, whole.same)
+    (list-unused a.memory.now a.rings.now a.port a.entries.now a.answer.now whole.long (omega arith) _ c.in_err-k.ensures)
 
-pub returns-in-Closed : goal.returns-in-Closed
-returns-in-Closed c =
+pub complete_listed-requires : goal.complete_listed-requires
+complete_listed-requires c = (rw c.in_ok-k.ensures.0 (in-use (backend_of c.args.memory.now) c.args.port c.in_ok-k.ensures.1).opened, omega arith)
+
+pub returns : goal.returns
+returns c =
     let a = c.args in
-    list-closed a.memory.now a.rings.now a.port a.entries.now a.answer.now (omega arith) (omega arith) (omega arith) (rw (← c.state-state.ensures, c.in-Closed.is))
+    subst
+    (λ (rings : List ℕ). ManyPromised a.memory.now rings a.port a.entries.now a.answer.now c.complete_listed.new.rings c.complete_listed.result c.complete_listed.new.answer c.complete_listed.new.memory)
+    c.in-Some.ensures.cases.same (rw c.in_ok-k.ensures.0 at c.complete_listed.ensures)

@@ -3,4 +3,4 @@ use Rattle.marks.proofs.Marks.{busy-shift}
 use Rattle.marks.proofs.is_busy.Goals as goal
 
 pub returns : goal.returns
-returns c = busy-shift c.args.t c.args.marks
+returns c = rw c.get.ensures (busy-shift c.args.t.index c.args.marks)

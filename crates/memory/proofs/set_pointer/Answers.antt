@@ -8,4 +8,4 @@ pub returns : goal.returns
 unfolding set_pointer
 returns c =
     let a = c.args in
-    pointer-put a.m.now (omega arith) a.k (omega arith)
+    rw c.get.ensures (pointer-put a.m.now (omega arith) a.k.index (omega arith))

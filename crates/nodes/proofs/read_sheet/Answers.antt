@@ -1,27 +1,27 @@
 -- `nodes::read_sheet` meets its contract: a law for each way out, whose premises are what the tests before it showed. Assumes nothing.
+use Rattle.std.proofs.lemmas.Result.{err_from_is_err_and}
+use Rattle.nodes.proofs.Order.{formed_contents, formed_readable, sheet_malformed, sheet_falling, sheet_fault, sheet_incomplete, sheet_read}
 use Rattle.nodes.proofs.read_sheet.Goals as goal
-use Rattle.nodes.proofs.Order.{formed-contents, formed-readable, sheet-malformed, sheet-falling, sheet-fault, sheet-incomplete, sheet-read}
 
 pub returns-then-not-well_formed : goal.returns-then-not-well_formed
-returns-then-not-well_formed c = search sheet-malformed
+returns-then-not-well_formed c = search sheet_malformed
 
-pub nodes_rise-requires : goal.nodes_rise-requires
-nodes_rise-requires c = search formed-contents
+pub of-table-requires : goal.of-table-requires
+of-table-requires c = search formed_contents
 
 pub returns-then-not-nodes_rise : goal.returns-then-not-nodes_rise
-returns-then-not-nodes_rise c = search sheet-falling
+returns-then-not-nodes_rise c = search sheet_falling
 
-pub read_bodies-bodies-requires : goal.read_bodies-bodies-requires
-read_bodies-bodies-requires c = formed-readable c.args.sheet.now _ c.well_formed-2.ensures c.if-not-well_formed.false _ c.nodes_rise.ensures c.if-not-nodes_rise.false
+pub read_bodies-requires : goal.read_bodies-requires
+read_bodies-requires c = search formed_readable
 
-pub returns-in-Refused : goal.returns-in-Refused
-returns-in-Refused c = search sheet-fault
-
-pub has_required-requires : goal.has_required-requires
-has_required-requires c = search formed-contents
+pub returns-in_err-values : goal.returns-in_err-values
+returns-in_err-values c =
+    let p = err_from_is_err_and c.from_residual.result c.from_residual.ensures.1 in
+    rw (p.1, p.2) (search (sheet_fault, c.in_err-values.ensures))
 
 pub returns-then-not-has_required : goal.returns-then-not-has_required
-returns-then-not-has_required c = search sheet-incomplete
+returns-then-not-has_required c = search (sheet_incomplete, c.in_ok-values.ensures)
 
-pub returns-in-None : goal.returns-in-None
-returns-in-None c = search sheet-read
+pub returns : goal.returns
+returns c = search (sheet_read, c.in_ok-values.ensures)

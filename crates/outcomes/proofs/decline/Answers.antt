@@ -10,15 +10,15 @@ use Rattle.outcomes.proofs.decline.Goals as goal
 pub returns : goal.returns
 returns c =
     let a = c.args in
-    let o = c.requires.0 in
-    let port = consumed-raised a.k c.next_index.result a.p o c.set_consumed.ensures in
+    let o = c.requires in
+    let port = consumed-raised a.k.index c.next_index.result a.p o c.set_consumed.ensures in
     let next : c.produced-produced.result ≡ a.p.produced = rw port at c.produced-produced.ensures in
-    let layout : c.abi-abi.result ≡ a.p.params.abi = rw port at c.abi-abi.ensures in
-    let pages : c.pages-pages.result ≡ a.p.params.pages = rw port at c.pages-pages.ensures in
+    let layout : c.format-format.result.abi ≡ a.p.params.abi = rw port at c.format-format.ensures.0 in
+    let pages : c.format-format.result.pages ≡ a.p.params.pages = rw port at c.format-format.ensures.1 in
     record {
-      rings = rw (view-responded (backend_of a.memory.now) a.k a.rings.now a.pair a.status, ← o.read) (rw (next, layout, pages) at c.respond-notify.ensures.rings);
-      answer = rw (view-notifies (backend_of a.memory.now) a.k a.rings.now, ← o.read, rw (next, layout, pages) at c.respond-notify.ensures.notify);
+      rings = rw (view-responded (backend_of a.memory.now) a.k.index a.rings.now a.pair a.fault.status, ← o.read) (rw (next, layout, pages) at c.respond-notify.ensures.rings);
+      answer = rw (view-notifies (backend_of a.memory.now) a.k.index a.rings.now, ← o.read, rw (next, layout, pages) at c.respond-notify.ensures.notify, c.id.ensures);
       memory =
-          answered a.k c.next_index.result c.next_index-2.result a.p o c.next_index.ensures (c.next_index-2.ensures ∙ ap after next)
+          answered a.k.index c.next_index.result c.next_index-2.result a.p o c.next_index.ensures (c.next_index-2.ensures ∙ ap after next)
           c.set_consumed.ensures c.set_produced.ensures c.advance.ensures;
     }

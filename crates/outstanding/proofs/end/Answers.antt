@@ -2,7 +2,7 @@
 use Rattle.outstanding.specs.Words.{pair_at, guest_of, words_ended}
 use Rattle.outstanding.proofs.end.Goals as goal
 use mathlib.Core.Path.{◌∙◌}
-use Rattle.outstanding.proofs.Words.{length-outstanding}
+use Rattle.outstanding.proofs.Words.{length_outstanding}
 
 pub returns : goal.returns
 unfolding guest_of pair_at words_ended
@@ -10,6 +10,6 @@ returns c =
     rw (
       c.set_pair.ensures,
       c.next_index-next.ensures,
-      c.collect_index.ensures,
-      c.outstanding-last.ensures.0 ∙ length-outstanding c.args.w.now,
+      c.index_at.ensures,
+      c.outstanding-last.ensures.0 ∙ length_outstanding c.args.w.now,
     )

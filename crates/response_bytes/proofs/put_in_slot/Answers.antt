@@ -8,5 +8,5 @@ pub put_fields-requires : goal.put_fields-requires
 unfolding ring_for
 put_fields-requires c =
     let a = c.args in
-    let f = fits-for a.abi a.pages in
-    omega (arith, slot_at-room (ring_for a.abi a.pages) f a.produced, f.response_room)
+    let f = fits-for a.format.abi a.format.pages in
+    omega (arith, slot_at-room (ring_for a.format.abi a.format.pages) f a.produced, f.response_room)

@@ -5,4 +5,4 @@ use Rattle.serve.proofs.next_slot.Goals as goal
 
 pub overflow_add-result : goal.overflow_add-result
 overflow_add-result c =
-    record { fits = omega (arith, c.slot_at.ensures, slot-within c.abi-abi.result c.pages-pages.result c.consumed.result) }
+    record { fits = omega (arith, c.slot_at.ensures, slot-within c.format-format.result.abi c.format-format.result.pages c.consumed.result) }

@@ -24,37 +24,34 @@ tested p published c d busy n r e f g x h =
 pub overruns-requires : goal.overruns-requires
 overruns-requires c =
     let a = c.args in
-    let w = c.requires.0 in
+    let w = c.requires in
     let e = rw c.consumed.ensures at c.distance-d.ensures in
-    λ z. some (backend_of a.memory.now) a.rings.now a.grants.now a.k a.published w.port w.read w.work (sym e ∙ z)
+    λ z. some (backend_of a.memory.now) a.rings.now a.grants.now a.k.index a.published w.port w.read w.work (sym e ∙ z)
 
 pub returns-then-overruns : goal.returns-then-overruns
 returns-then-overruns c =
     let a = c.args in
-    let w = c.requires.0 in
-    overrun-served a.memory.now a.rings.now a.grants.now a.k a.published w.port w.read w.work _ _ _ _
-    (ltb-true _ _ (sym (tested ((backend_of a.memory.now).port a.k) a.published _ _ _ _ _ c.consumed.ensures c.distance-d.ensures c.pages.ensures c.busy_marks-busy.ensures c.if-overruns.ensures)))
+    let w = c.requires in
+    overrun-served a.memory.now a.rings.now a.grants.now a.k.index a.published w.port w.read w.work _ _ _ _
+    (ltb-true _ _ (sym (tested ((backend_of a.memory.now).port a.k.index) a.published _ _ _ _ _ c.consumed.ensures c.distance-d.ensures c.pages.ensures c.busy_marks-busy.ensures c.if-overruns.ensures)))
     refl c.no_extents.ensures c.overrun.ensures
 
 pub take-requires : goal.take-requires
 take-requires c =
     let a = c.args in
-    let w = c.requires.0 in (
-      waits-room (backend_of a.memory.now) a.rings.now a.grants.now a.k a.published w.port w.read w.work
-          (ltb-false _ _ (sym (tested ((backend_of a.memory.now).port a.k) a.published _ _ _ _ _ c.consumed.ensures c.distance-d.ensures c.pages.ensures c.busy_marks-busy.ensures c.if-overruns.ensures))),
-      c.requires.1,
-      c.requires.2,
-    )
+    let w = c.requires in
+    waits-room (backend_of a.memory.now) a.rings.now a.grants.now a.k.index a.published w.port w.read w.work
+    (ltb-false _ _ (sym (tested ((backend_of a.memory.now).port a.k.index) a.published _ _ _ _ _ c.consumed.ensures c.distance-d.ensures c.pages.ensures c.busy_marks-busy.ensures c.if-overruns.ensures)))
 
 pub returns : goal.returns
 returns c =
     let a = c.args in
-    let w = c.requires.0 in
+    let w = c.requires in
     let t = c.take.ensures in
     record {
       effect =
           t.effect
-          ∙ waits-served (backend_of a.memory.now) a.rings.now a.grants.now a.k a.published w.port w.read w.work
-          (ltb-false _ _ (sym (tested ((backend_of a.memory.now).port a.k) a.published _ _ _ _ _ c.consumed.ensures c.distance-d.ensures c.pages.ensures c.busy_marks-busy.ensures c.if-overruns.ensures)));
+          ∙ waits-served (backend_of a.memory.now) a.rings.now a.grants.now a.k.index a.published w.port w.read w.work
+          (ltb-false _ _ (sym (tested ((backend_of a.memory.now).port a.k.index) a.published _ _ _ _ _ c.consumed.ensures c.distance-d.ensures c.pages.ensures c.busy_marks-busy.ensures c.if-overruns.ensures)));
       memory = t.memory;
     }

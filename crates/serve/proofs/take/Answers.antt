@@ -1,13 +1,12 @@
 -- `serve::take` meets its contract: the copy is the slot, and the verdict on it is the one due.
 use native.Mathlib.Omega.{arith}
-use native.Mathlib.Nat.{add-sub_cancel_left}
 use mathlib.Core.Path.{◌≡◌, refl, sym, ap, ◌∙◌, subst}
 use mathlib.Core.List.{List}
 use Prim.Native.Nat.{ℕ, ◌+◌, ◌*◌, ◌≤◌}
 use lib.ListN.{length}
 use Rattle.wire.specs.Part.{part}
 use Rattle.model.specs.Backend.{Backend}
-use Rattle.model.specs.Buffers.{ring_share, grants_of}
+use Rattle.model.specs.Buffers.{ring_share}
 use Rattle.model.specs.Plan.{words_beside}
 use Rattle.model.specs.Ring.{layout_of, ring_of, slot_at}
 use Rattle.model.specs.declared.Abi.{Abi}
@@ -31,37 +30,35 @@ asked b k p rings place abi copy f e z c =
 
 pub copy_slot-slot-requires : goal.copy_slot-slot-requires
 copy_slot-slot-requires c =
-    let h = c.requires.0.reads.port in
-    let p = (backend_of c.args.memory.now).port c.args.k in
+    let h = c.requires.reads.port in
+    let p = (backend_of c.args.memory.now).port c.args.k.index in
     subst (λ (a : Abi). c.next_slot-at.result + (layout_of a).slot_size ≤ length c.args.rings.now) (sym c.abi.ensures)
-    (omega (arith, h, c.requires.1.pages, c.next_slot-at.ensures, slot-within p.params.abi p.params.pages p.consumed))
+    (omega (arith, h, c.next_slot-at.ensures, slot-within p.params.abi p.params.pages p.consumed))
 
 pub start-requires : goal.start-requires
 start-requires c =
-    (rw c.port_at-p.ensures c.requires.0, expected-fits _ _ _ _ _ (sym c.judge-verdict.ensures.verdict ∙ c.in-Start.is))
+    (rw c.port_at-p.ensures c.requires, expected-fits _ _ _ _ _ (sym c.judge-verdict.ensures.verdict ∙ c.in-Ok.is))
 
-pub returns-in-Refused : goal.returns-in-Refused
-unfolding grants_of part
-returns-in-Refused c =
+pub returns-in-Err : goal.returns-in-Err
+returns-in-Err c =
     let a = c.args in
     let b = backend_of a.memory.now in
     let said = c.judge-verdict.ensures in
-    took-declined a.memory.now a.rings.now a.grants.now a.k c.port_at-p.result (record { port = c.requires.0.reads.port; read = c.port_at-p.ensures }) c.copy_slot-slot.result
-    (asked b a.k c.port_at-p.result a.rings.now _ _ _ c.port_at-p.ensures c.next_slot-at.ensures c.abi.ensures c.copy_slot-slot.ensures)
-    c.judge-verdict.result (rw add-sub_cancel_left at said.verdict)
+    took-declined a.memory.now a.rings.now a.grants.now a.k.index c.port_at-p.result (record { port = c.requires.reads.port; read = c.port_at-p.ensures }) c.copy_slot-slot.result
+    (asked b a.k.index c.port_at-p.result a.rings.now _ _ _ c.port_at-p.ensures c.next_slot-at.ensures c.abi.ensures c.copy_slot-slot.ensures)
+    c.judge-verdict.result (rw c.port_grants.ensures at said.verdict)
     c.pair_of-pair.result c.pair_of-pair.ensures
     _ _ (said.beside ∙ ap (words_beside (request_in c.copy_slot-slot.result)) (sym said.verdict))
-    _ _ _ _ c.in-Refused.is c.decline.ensures
+    _ _ _ c.in-Err.is c.decline.ensures
 
-pub returns-in-Start : goal.returns-in-Start
-unfolding grants_of part
-returns-in-Start c =
+pub returns-in-Ok : goal.returns-in-Ok
+returns-in-Ok c =
     let a = c.args in
     let b = backend_of a.memory.now in
     let said = c.judge-verdict.ensures in
-    took-started a.memory.now a.rings.now a.grants.now a.k c.port_at-p.result (record { port = c.requires.0.reads.port; read = c.port_at-p.ensures }) c.copy_slot-slot.result
-    (asked b a.k c.port_at-p.result a.rings.now _ _ _ c.port_at-p.ensures c.next_slot-at.ensures c.abi.ensures c.copy_slot-slot.ensures)
-    c.judge-verdict.result (rw add-sub_cancel_left at said.verdict)
+    took-started a.memory.now a.rings.now a.grants.now a.k.index c.port_at-p.result (record { port = c.requires.reads.port; read = c.port_at-p.ensures }) c.copy_slot-slot.result
+    (asked b a.k.index c.port_at-p.result a.rings.now _ _ _ c.port_at-p.ensures c.next_slot-at.ensures c.abi.ensures c.copy_slot-slot.ensures)
+    c.judge-verdict.result (rw c.port_grants.ensures at said.verdict)
     c.pair_of-pair.result c.pair_of-pair.ensures
     _ _ (said.beside ∙ ap (words_beside (request_in c.copy_slot-slot.result)) (sym said.verdict))
-    _ _ _ c.in-Start.is refl c.start.ensures
+    _ _ _ c.in-Ok.is refl c.start.ensures

@@ -10,12 +10,12 @@ returns-then-text-asked c =
 
 pub returns-then-text-i : goal.returns-then-text-i
 returns-then-text-i c =
-    same_stop c.args.text.now c.args.asked.now c.loop-i.i (omega arith) (omega arith) c.if-text-i.true ∙ c.loop-i.invariant.2
+    same_stop c.args.text.now c.args.asked.now c.loop-i.i (omega arith) (omega arith) c.if-text-i.true ∙ c.loop-i.invariant
 
 pub loop-i-preserved : goal.loop-i-preserved
 loop-i-preserved c =
-    (omega arith, c.loop-i.invariant.1, same-on c.args.text.now c.args.asked.now c.loop-i.i (omega arith) (omega arith) c.if-text-i.false ∙ c.loop-i.invariant.2)
+    same-on c.args.text.now c.args.asked.now c.loop-i.i (omega arith) (omega arith) c.if-text-i.false ∙ c.loop-i.invariant
 
 pub returns : goal.returns
 returns c =
-    same-done c.args.text.now c.args.asked.now c.loop-i.i (omega arith) (omega arith) ∙ c.loop-i.invariant.2
+    same-done c.args.text.now c.args.asked.now c.loop-i.i (omega arith) (omega arith) ∙ c.loop-i.invariant

@@ -1,6 +1,5 @@
 -- `turn::turn_into` meets its promise, in each of the ways that it ends.
-use native.Mathlib.Omega.{arith}
-use mathlib.Core.Path.{sym, ◌∙◌}
+use Rattle.std.proofs.Common.{sym, arith}
 use native.Mathlib.Nat.{mod-lt}
 use Rattle.model.specs.Backend.{view_of}
 use Rattle.memory.specs.Backend.{backend_of}
@@ -20,18 +19,21 @@ returns-then-grants-ne-GRANTS_BYTES c =
 
 pub serve-requires : goal.serve-requires
 serve-requires c =
-    let a = c.args in
-    let o = pick-found (view_of (backend_of a.memory.now)) a.rings.now _ _ (sym c.pick_port-pick.ensures ∙ c.in-Port.is) in
-    (record { port = rw o.place (mod-lt _ (omega arith)); read = o.read; work = o.work }, record { pages = c.if-rings-ne-RINGS_BYTES.false; rights = c.if-grants-ne-GRANTS_BYTES.false }, c.requires)
+    let o = pick-found (view_of (backend_of c.args.memory.now)) _ _ _ (sym c.in-Some-pick_port.ensures) in
+    record { port = rw o.place (mod-lt _ (omega arith)); read = o.read; work = o.work }
 
-pub returns-in-Nobody : goal.returns-in-Nobody
-returns-in-Nobody c =
+pub returns-in-None : goal.returns-in-None
+returns-in-None c =
     let a = c.args in
-    turn-idle a.memory.now a.rings.now a.grants.now a.words.now c.if-rings-ne-RINGS_BYTES.false c.if-grants-ne-GRANTS_BYTES.false _ _ _ _
-    (sym c.pick_port-pick.ensures ∙ c.in-Nobody.is) c.rest.ensures
+    let whole = c.in-Some.ensures.cases in
+    let rights = c.in-Some-as_array.ensures.cases in
+    turn-idle a.memory.now a.rings.now a.grants.now a.words.now whole.long rights.long _ _ _ _
+    (rw whole.same at (sym c.in-None.ensures)) (rw whole.same at c.rest.ensures)
 
-pub returns-in-Port : goal.returns-in-Port
-returns-in-Port c =
+pub returns-in-Some-pick_port : goal.returns-in-Some-pick_port
+returns-in-Some-pick_port c =
     let a = c.args in
-    turn-served a.memory.now a.rings.now a.grants.now a.words.now c.if-rings-ne-RINGS_BYTES.false c.if-grants-ne-GRANTS_BYTES.false _ _
-    (sym c.pick_port-pick.ensures ∙ c.in-Port.is) _ _ _ _ c.serve.ensures
+    let whole = c.in-Some.ensures.cases in
+    let rights = c.in-Some-as_array.ensures.cases in
+    turn-served a.memory.now a.rings.now a.grants.now a.words.now whole.long rights.long _ _
+    (rw whole.same at (sym c.in-Some-pick_port.ensures)) _ _ _ _ (rw (whole.same, rights.same) at c.serve.ensures)

@@ -1,26 +1,16 @@
--- `asking::request::wrong_segments` meets its contract. The invariant: the segments left are good if all are. Assumes nothing.
+-- `asking::request::wrong_segments` meets its contract. Assumes nothing.
+use Rattle.std.proofs.Common.{rules, tests, not, ap, ◌∙◌, arith, ◌/◌, length, take, drop, get_or-take, get_or-drop, length-take, length-drop}
+use Rattle.std.specs.Simd.{first_chunks}
+use Rattle.std.proofs.lemmas.Iterator.{YieldsList-from_slice}
+use Rattle.std.proofs.lemmas.Iterator.Search.{all_from_yields_List}
 use Rattle.asking.proofs.request.wrong_segments.Goals as goal
-use native.Mathlib.Omega.{arith}
-use Rattle.asking.proofs.Asking.{good-next, good-crossed, good-past, good-wide, walk-fault, walk-on, walk_end}
-
-pub returns-then-last-request : goal.returns-then-last-request
-returns-then-last-request c =
-    walk-fault c.args.request.now c.args.n c.loop-i.i c.loop-i.invariant.1 (omega arith) (λ m. good-crossed c.args.request.now m c.loop-i.i c.if-last-request.true)
-
-pub returns-then-last-gt-LAST_IN_FRAME : goal.returns-then-last-gt-LAST_IN_FRAME
-returns-then-last-gt-LAST_IN_FRAME c =
-    walk-fault c.args.request.now c.args.n c.loop-i.i c.loop-i.invariant.1 (omega arith) (λ m. good-past c.args.request.now m c.loop-i.i c.if-last-gt-LAST_IN_FRAME.true)
-
-pub returns-then-request-at-ge-FRAME_VALUES : goal.returns-then-request-at-ge-FRAME_VALUES
-returns-then-request-at-ge-FRAME_VALUES c =
-    walk-fault c.args.request.now c.args.n c.loop-i.i c.loop-i.invariant.1 (omega arith) (λ m. good-wide c.args.request.now m c.loop-i.i c.if-request-at-ge-FRAME_VALUES.true)
-
-pub loop-i-preserved : goal.loop-i-preserved
-loop-i-preserved c = (
-  omega arith,
-  walk-on c.args.request.now c.args.n c.loop-i.i c.loop-i.invariant.1 (omega arith)
-      (λ m. good-next c.args.request.now m c.loop-i.i (omega arith) (omega arith) (omega arith)),
-)
+use Rattle.asking.proofs.Segments.{passes, all-pass}
 
 pub returns : goal.returns
-returns c = walk_end c.args.request.now c.args.n c.loop-i.i c.loop-i.invariant.1 (omega arith)
+returns c =
+    let w = c.args.request.now in
+    let xs = take 33 (drop 8 w) in
+    let front = c.iter.ensures.rest ∙ ap (take c.args.n) c.as_chunks.ensures.front in
+    ap not
+    (all_from_yields_List passes _ _ _ c.all.ensures.ran (YieldsList-from_slice (take c.args.n (first_chunks 3 (length xs / 3) xs)) front) (λ x b q k. search (rules, tests))
+    ∙ all-pass w xs c.args.n 0 (length xs / 3) (omega (arith, length-take 33 (drop 8 w), length-drop 8 w)) (λ j l. get_or-take 33 (drop 8 w) j 0 (omega arith) ∙ get_or-drop 8 w j 0))

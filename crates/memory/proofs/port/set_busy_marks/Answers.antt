@@ -6,4 +6,4 @@ use Rattle.memory.proofs.port.set_busy_marks.Goals as goal
 pub returns : goal.returns
 returns c =
     let a = c.args in
-    rw c.put_word.ensures (busy-put a.m.now (omega arith) a.k (omega arith) a.marks)
+    rw c.put_field.ensures (busy-put a.m.now (omega arith) a.k.index (omega arith) a.marks)

@@ -6,4 +6,4 @@ use Rattle.memory.proofs.port.set_consumed.Goals as goal
 pub returns : goal.returns
 returns c =
     let a = c.args in
-    rw c.put_word.ensures (consumed-put a.m.now (omega arith) a.k (omega arith) a.v (omega arith))
+    rw c.put_field.ensures (consumed-put a.m.now (omega arith) a.k.index (omega arith) a.v (omega arith))

@@ -6,4 +6,4 @@ use Rattle.memory.proofs.port.set_produced.Goals as goal
 pub returns : goal.returns
 returns c =
     let a = c.args in
-    rw c.put_word.ensures (produced-put a.m.now (omega arith) a.k (omega arith) a.v (omega arith))
+    rw c.put_field.ensures (produced-put a.m.now (omega arith) a.k.index (omega arith) a.v (omega arith))

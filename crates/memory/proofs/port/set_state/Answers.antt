@@ -6,4 +6,4 @@ use Rattle.memory.proofs.port.set_state.Goals as goal
 pub returns : goal.returns
 returns c =
     let a = c.args in
-    rw (c.put_word.ensures, c.state_word.ensures) (state-put a.m.now (omega arith) a.k (omega arith) a.s)
+    rw (c.put_field.ensures) (state-put a.m.now (omega arith) a.k.index (omega arith) a.s)

@@ -8,5 +8,5 @@ pub returns : goal.returns
 unfolding set_port
 returns c =
     let a = c.args in
-    rw (c.put_run.ensures, c.words_of-w.ensures)
-    (port-put a.m.now (omega arith) a.k (omega arith) a.p (record { consumed = omega arith; produced = omega arith }))
+    rw (c.put_run.ensures, c.get.ensures, c.words_of.ensures)
+    (port-put a.m.now (omega arith) a.k.index (omega arith) a.p (record { consumed = omega arith; produced = omega arith }))

@@ -8,5 +8,5 @@ pub returns : goal.returns
 unfolding set_tag
 returns c =
     let a = c.args in
-    rw (c.put_run.ensures, c.tag_words-w.ensures)
-    (tag-put a.m.now (omega arith) a.k (omega arith) a.t (omega arith) a.x (record { operation = omega arith; serial = omega arith; expected = omega arith }))
+    rw (c.put_run.ensures, c.get.ensures, c.get-2.ensures, c.tag_words.ensures)
+    (tag-put a.m.now (omega arith) a.k.index (omega arith) a.t.index (omega arith) a.x (record { operation = omega arith; serial = omega arith; expected = omega arith }))

@@ -7,6 +7,6 @@ use Rattle.response.proofs.page.respond.Goals as goal
 pub returns : goal.returns
 unfolding pages_of set_pages part set_part
 returns c =
-    let n = c.ring_bytes.ensures.0 c.args.abi in
+    let n = c.ring_bytes.ensures.0 c.args.format.abi in
     let e = c.write_response.ensures in
-    record { rings = rw (e.page, add-sub_cancel_left, n); notify = rw (e.notify, add-sub_cancel_left, n) }
+    record { rings = rw (e.page, c.get-base.ensures, add-sub_cancel_left, n); notify = rw (e.notify, c.get-base.ensures, add-sub_cancel_left, n) }

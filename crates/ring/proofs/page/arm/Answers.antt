@@ -7,5 +7,5 @@ use Rattle.ring.proofs.page.arm.Goals as goal
 pub returns : goal.returns
 returns c g room within =
     let a = c.args in
-    rw (c.put_u32.ensures, c.next_index.ensures)
-    (req-event-at g room within a.rings.now a.k (omega arith) (omega arith) (after a.consumed))
+    rw (c.store.ensures, c.next_index.ensures, c.get.ensures)
+    (req-event-at g room within a.rings.now a.k.index (omega arith) (omega arith) (after a.consumed))

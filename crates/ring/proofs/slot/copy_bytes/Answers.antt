@@ -7,4 +7,4 @@ pub loop-i-preserved : goal.loop-i-preserved
 loop-i-preserved c =
     let a = c.args in
     let l = c.loop-i in
-    (omega arith, simp length-set (omega arith), copied_more l.i a.source.now a.from a.copy.now a.to l.copy l.invariant.2 (omega arith))
+    (simp length-set (omega arith), copied_more l.i a.source.now a.from a.copy.now a.to l.copy l.invariant.1 (omega arith))

@@ -4,4 +4,4 @@ use Rattle.ring.proofs.slot.slot_at.Goals as goal
 
 pub returns : goal.returns
 unfolding slot_at ring_for
-returns c = rw (c.slot_size.ensures.0, c.ring_size.ensures.0 c.args.abi)
+returns c = rw (c.slot_size.ensures.0, c.ring_size.ensures.0 c.args.format.abi)

@@ -1,5 +1,6 @@
 -- `rotation::pick::look_at` meets its contract, by the state of the port.
 use mathlib.Core.Path.{◌≡◌}
+use mathlib.Core.Logic.{⊎_elim}
 use native.Mathlib.Omega.{arith}
 use Rattle.std.proofs.Common.{ℕ, ◌≤◌, List}
 use Rattle.model.specs.Backend.{Backend, view_of}
@@ -21,22 +22,19 @@ pub returns-then-published-p : goal.returns-then-published-p
 returns-then-published-p c =
     let a = c.args in
     let b = backend_of a.memory.now in
-    let r = reads b a.rings.now a.k _ c.req_prod-published.ensures in
-    look-same b a.rings.now a.k (rw (← c.port_at-p.ensures, c.in-Open.is)) (rw (← r) (omega arith))
+    let r = reads b a.rings.now a.k.index _ c.req_prod-published.ensures in
+    look-same b a.rings.now a.k.index (rw (← c.port_at-p.ensures, c.in-Open.is)) (rw (← r) (omega arith))
     (rw (← r, ← c.port_at-p.ensures) c.if-published-p.true)
 
 pub returns-in-Closed : goal.returns-in-Closed
 returns-in-Closed c =
-    look-shut (backend_of c.args.memory.now) c.args.rings.now c.args.k (rw (← c.port_at-p.ensures, c.in-Closed.is))
-
-pub returns-in-Broken : goal.returns-in-Broken
-returns-in-Broken c =
-    look-shut (backend_of c.args.memory.now) c.args.rings.now c.args.k (rw (← c.port_at-p.ensures, c.in-Broken.is))
+    look-shut (backend_of c.args.memory.now) c.args.rings.now c.args.k.index
+    (rw (← c.port_at-p.ensures) (⊎_elim (λ e. rw e) (λ e. rw e) c.in-Closed.is))
 
 pub returns-else-published-p : goal.returns-else-published-p
 returns-else-published-p c =
     let a = c.args in
     let b = backend_of a.memory.now in
-    let r = reads b a.rings.now a.k _ c.req_prod-published.ensures in
-    rw r (look-work b a.rings.now a.k (rw (← c.port_at-p.ensures, c.in-Open.is)) (rw (← r) (omega arith))
-    (backend-ranged a.memory.now a.k).consumed (rw (← r, ← c.port_at-p.ensures) c.if-published-p.false))
+    let r = reads b a.rings.now a.k.index _ c.req_prod-published.ensures in
+    rw r (look-work b a.rings.now a.k.index (rw (← c.port_at-p.ensures, c.in-Open.is)) (rw (← r) (omega arith))
+    (backend-ranged a.memory.now a.k.index).consumed (rw (← r, ← c.port_at-p.ensures) c.if-published-p.false))

@@ -8,11 +8,11 @@ use Rattle.rotation.proofs.pick.pick_port.Given as goal
 
 abbrev pub invariant-loop-published : goal.invariant-loop-published
 invariant-loop-published l = record {
-  first_small : l.first < ports;
-  small : l.k < ports;
-  first_is : l.first ≡ (backend_of l.memory).pointer;
-  passed : Passed (view_of (backend_of l.memory)) l.rings (gone l.first l.k);
+  first_small : l.first.index < ports;
+  small : l.k.index < ports;
+  first_is : l.first.index ≡ (backend_of l.memory).pointer;
+  passed : Passed (view_of (backend_of l.memory)) l.rings (gone l.first.index l.k.index);
 }
 
 abbrev pub decreases-loop-published : goal.decreases-loop-published
-decreases-loop-published l = ports - gone l.first l.k
+decreases-loop-published l = ports - gone l.first.index l.k.index

@@ -1,7 +1,0 @@
--- `digits::eight::four_are_digits` meets its contract. Assumes nothing.
-use Rattle.digits.proofs.eight.four_are_digits.Goals as goal
-use Rattle.digits.proofs.Digits.{digits-halves}
-
-pub returns : goal.returns
-returns c =
-    rw (c.two_are_digits.ensures, c.two_are_digits-2.ensures, digits-halves 2 c.args.text.now c.args.i)
