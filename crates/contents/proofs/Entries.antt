@@ -145,7 +145,7 @@ pub ruleset rises = (rising_alone, rising_on, rising_stop, rising_past, rising_e
 -- ---- what `well_formed` tests
 
 -- bodies end no earlier than they begin
-ends-least : (n : ℕ) (s : List ℕ) (i at : ℕ) → at ≤ bodies_end n s i at
+pub ends-least : (n : ℕ) (s : List ℕ) (i at : ℕ) → at ≤ bodies_end n s i at
 unfolding bodies_end
 ends-least zero s i at = omega arith
 ends-least (suc n) s i at = omega (arith, ends-least n s (suc i) (at + body_length s i))

@@ -11,9 +11,9 @@ use wire::Integer;
 
 // The entries begin after the byte that counts them, and have four bytes each: the node, one that is reserved, and two
 // of the body's length.
-const ENTRIES: usize = 1;
+pub const ENTRIES: usize = 1;
 
-const ENTRY: usize = 4;
+pub const ENTRY: usize = 4;
 
 const NODE: usize = 0;
 

@@ -17,11 +17,11 @@ use Rattle.digits.proofs.Digits.{grows, digits-after, digits_append, all_append}
 
 -- ---- a value
 
-too-big : (v : ℕ) → 2 ^ 64 ≤ v → capped v ≡ Err NumberError.TooBig
+pub too-big : (v : ℕ) → 2 ^ 64 ≤ v → capped v ≡ Err NumberError.TooBig
 unfolding capped
 too-big v h = rw (le-ltb v (2 ^ 64) h)
 
-in-range : (v : ℕ) → v < 2 ^ 64 → capped v ≡ Ok v
+pub in-range : (v : ℕ) → v < 2 ^ 64 → capped v ≡ Ok v
 unfolding capped
 in-range v h = rw (lt-ltb v (2 ^ 64) h)
 
@@ -48,17 +48,6 @@ big-alike : (text : List ℕ) (v : ℕ) → 2 ^ 64 ≤ v → digits_after v text
 unfolding digits_after
 big-alike text v h =
     rw (too-big (digits_from v text) (omega (arith, h, grows text v)), too-big (digits_from (2 ^ 64) text) (omega (arith, grows text (2 ^ 64))))
-
--- a number that is too big stays so with all the digits that come
-pub big-digits : (text : List ℕ) → all is_digit text ≡ true → digits_after (2 ^ 64) text ≡ Err NumberError.TooBig
-unfolding digits_after
-big-digits text h = rw (h, too-big (digits_from (2 ^ 64) text) (grows text (2 ^ 64)))
-
-pub big-none : (text : List ℕ) → all is_digit text ≡ false → digits_after (2 ^ 64) text ≡ Err NumberError.NotANumber
-unfolding digits_after
-big-none text h = rw h
-
-pub ruleset from_big = (big-digits, big-none)
 
 -- ---- the bytes that make no whole eight
 
@@ -112,6 +101,15 @@ unfolding digits_after all digits_from
 eight_end text i v h l =
     let e : drop (8 * i) text ≡ [] = drop_of_length-le text h in
     rw e (in-range v l)
+
+-- all digits: a number that was too big is left so
+pub big_end : (text : List ℕ) (i : ℕ) → length text ≤ 8 * i → digits_after (2 ^ 64) (drop (8 * i) text) ≡ Err NumberError.TooBig
+unfolding digits_after all digits_from
+big_end text i h =
+    let e : drop (8 * i) text ≡ [] = drop_of_length-le text h in
+    rw e (too-big (2 ^ 64) (omega arith))
+
+pub ruleset from_big = (eight_big, eight_none, big_end)
 
 pub ruleset from_eights = (eight_read, eight_big, eight_too_big, eight_none, eight_end)
 

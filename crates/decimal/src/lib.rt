@@ -5,7 +5,7 @@ ghost use Rattle.std.specs.Prelude.{◌≡◌, ◌+◌, ◌*◌, ◌%◌, ◌^�
 ghost use Rattle.model.specs.NodeSheet.{digits_of, number_of};
 ghost use Rattle.decimal.specs.Digits.{digits_after};
 
-use digits::{DIGIT_0, are_digits, value_of};
+use digits::{DIGIT_0, are_digits, eight_are_digits, value_of};
 use model::NumberError;
 
 const TEN_TO_THE_8: u64 = 100_000_000;
@@ -17,16 +17,19 @@ fn after_eight(a: u64, d: u64) -> Option<u64>
     a.checked_mul(TEN_TO_THE_8)?.checked_add(d)
 }
 
-// What text makes of a number that is too big, as 2^64 is: digits leave it so, any other byte makes it no number.
+// What whole eights make of a number that is too big, as 2^64 is: digits leave it so, any other byte makes it no
+// number.
 #[tactic(auto, using(crate::proofs::Reading::from_big))]
 fn read_too_big(text: &[u8]) -> Result<u64, NumberError>
+    requires { length text.now % 8 ≡ 0 }
     ensures { result ≡ digits_after (2 ^ 64) text.now }
 {
-    if are_digits(text) {
-        Err(NumberError::TooBig)
-    } else {
-        Err(NumberError::NotANumber)
+    for more in text.as_chunks::<8>().0 {
+        if !eight_are_digits(more) {
+            return Err(NumberError::NotANumber);
+        }
     }
+    Err(NumberError::TooBig)
 }
 
 // What text makes of a number of value a. Once that is too big, only what is no digit matters.
@@ -38,7 +41,7 @@ fn by_eights(a: u64, text: &[u8]) -> Result<u64, NumberError>
     let (eights, _) = text.as_chunks::<8>();
     let mut value = a;
     for eight in eights {
-        if !are_digits(eight) {
+        if !eight_are_digits(eight) {
             return Err(NumberError::NotANumber);
         }
         let Some(more) = after_eight(value, value_of(eight)) else {

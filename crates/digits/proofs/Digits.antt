@@ -1,10 +1,10 @@
 -- The laws of digits: their value, and how a text of them is read one by one. Assumes nothing.
 use mathlib.Core.Path.{◌≡◌, refl, sym, ◌∙◌}
-use mathlib.Core.Bool.{Bool, true, ◌&&◌, and_assoc}
+use mathlib.Core.Bool.{Bool, true, ◌&&◌, and-true, and_assoc}
 use mathlib.Core.List.{List, [], ◌∷◌, ◌++◌}
 use Prim.Native.Nat.{ℕ, ◌+◌, ◌-◌, ◌*◌, ◌^◌, ◌<◌, ◌≤◌}
 use native.Mathlib.Numerals.{add-one}
-use native.Mathlib.Nat.{zero-add, add_assoc, add-mul, mul_assoc, pow-succ', pow-le-pow_right}
+use native.Mathlib.Nat.{zero-add, add_assoc, add-mul, mul_assoc, pow-succ', pow-le-pow_right, mul-le-mul_right}
 use native.Mathlib.Omega.{arith}
 use lib.Dec.{leb}
 use lib.Pow.{pow-add}
@@ -42,6 +42,16 @@ unfolding digits_from
 grows [] v = omega arith
 grows (d ∷ ds) v = omega (arith, grows ds (v * 10 + (d - 48)))
 
+-- n digits are below ten to the power of n
+pub digits-below : (ds : List ℕ) → all is_digit ds ≡ true → digits_from 0 ds < 10 ^ length ds
+unfolding digits_from all
+digits-below [] h = omega arith
+digits-below (d ∷ ds) h =
+    let r = digit_range d (and_left (is_digit d) (all is_digit ds) h) in
+    let below = digits-below ds (and_right (is_digit d) (all is_digit ds) h) in
+    let most : (d - 48) * 10 ^ length ds ≤ 9 * 10 ^ length ds = mul-le-mul_right (10 ^ length ds) (omega (arith, r)) in
+    rw (digits-after ds (0 * 10 + (d - 48)), pow-succ') (omega (arith, below, most))
+
 -- a digit after n digits is below ten to the power of n + 1
 pub digit-after : (n v d : ℕ) → v < 10 ^ n → d < 10 → v * 10 + d < 10 ^ (n + 1)
 digit-after n v d h l = rw (pow-add 10 n 1) (omega (arith, h, l))
@@ -57,6 +67,11 @@ pub all_append : (ds es : List ℕ) → all is_digit (ds ++ es) ≡ all is_digit
 unfolding all
 all_append [] es = refl
 all_append (d ∷ ds) es = rw (all_append ds es) (sym (and_assoc (is_digit d) (all is_digit ds) (all is_digit es)))
+
+-- of one byte that is its own test
+pub all_one : (d : ℕ) → all is_digit (d ∷ []) ≡ is_digit d
+unfolding all
+all_one d = and-true (is_digit d)
 
 -- ---- from one digit to the next
 

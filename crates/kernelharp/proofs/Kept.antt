@@ -25,10 +25,10 @@ use Rattle.model.proofs.Completions.{length-in, length-statuses}
 
 -- ---- a turn
 
--- what a refused turn says of the words that it was lent and left
+-- what a refused turn says: why it is refused, and of the words that it was lent and left
 abbrev pub WordsKept : List ℕ → List ℕ → Result Turned Refusal → Type 0
 WordsKept lent left (Ok did) = Unit
-WordsKept lent left (Err e) = left ≡ lent
+WordsKept lent left (Err e) = (left ≡ lent) × (e ≡ Refusal.WrongLength)
 
 abbrev pub TurnKeeps : List ℕ → TurnEffect → Type 0
 TurnKeeps lent e = WordsKept lent e.words e.answer
@@ -47,7 +47,7 @@ served-keeps lent v rings grants k Pending.Overrun = tt
 pub turn-keeps : (v : View) (rings grants words : List ℕ) → TurnKeeps words (due_turn v rings grants words)
 unfolding due_turn turned idle
 turn-keeps v rings grants words =
-    by_cond (TurnKeeps words) (not (are_rings rings && are_grants grants)) _ _ (λ _. refl) (λ _.
+    by_cond (TurnKeeps words) (not (are_rings rings && are_grants grants)) _ _ (λ _. (refl, refl)) (λ _.
     by_cond (TurnKeeps words) (ltb (passed_over v rings) ports) _ _ (λ _. served-keeps words v rings grants _ _) (λ _. tt))
 
 -- ---- a completion

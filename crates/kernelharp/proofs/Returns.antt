@@ -46,7 +46,7 @@ module _ (m rings grants answer pages left : List ℕ) where
   left_alone : (r : Result Turned Refusal) (words : List ℕ) → words ≡ set_part plan_words answer extents_at (extents_in words) → WordsKept (extents_in answer) (extents_in words) r
       → turn_left r words (extents_in words) ≡ turn_left r answer (extents_in words)
   left_alone (Ok did) words w k = refl
-  left_alone (Err e) words w k = w ∙ ap (set_part plan_words answer extents_at) k ∙ set_part-part plan_words answer extents_at
+  left_alone (Err e) words w k = w ∙ ap (set_part plan_words answer extents_at) k.0 ∙ set_part-part plan_words answer extents_at
 
   pub turn-returned : (r : Result Turned Refusal) (words : List ℕ) (n : ℕ) (written : List ℕ) → TurnPromised m rings grants answer r pages words left
       → (n ≡ turned_number r) × (written ≡ turn_left r words (extents_in words)) → TurnReturned m rings grants answer n pages written left

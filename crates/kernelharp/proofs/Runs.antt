@@ -37,7 +37,7 @@ use Rattle.kernelharp.proofs.Returns.{returned, list-returned}
 extents-left : (r : Result Turned Refusal) (xs answer words : List ℕ) → WordsKept (extents_in answer) xs r
     → (turned_number r ≡ 0 → length xs ≡ 44) → words ≡ turn_left r answer xs → extents_in words ≡ xs
 extents-left (Ok did) xs answer words k l w = rw w (extents-decoded did xs (l refl))
-extents-left (Err e) xs answer words k l w = ap extents_in w ∙ sym k
+extents-left (Err e) xs answer words k l w = ap extents_in w ∙ sym k.0
 
 turn-effect : (e : TurnEffect) (answer : List ℕ) (n : ℕ) (pages words : List ℕ) → TurnKeeps (extents_in answer) e → Long e → n ≡ turned_number e.answer
     → pages ≡ e.rings → words ≡ turn_left e.answer answer e.words

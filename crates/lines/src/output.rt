@@ -175,12 +175,30 @@ pub struct Changes<'a> {
     pub after: &'a [u8; RINGS_BYTES],
 }
 
+// So many bytes are looked at in one step, where none of them has changed.
+const STEP: usize = 64;
+
+// Whether any byte has changed. All are looked at: of a test with no branch the compiler makes a few vector
+// instructions.
+fn differ(before: &[u8; STEP], after: &[u8; STEP]) -> bool {
+    before
+        .iter()
+        .zip(after)
+        .fold(false, |differ, (old, new)| differ | (old != new))
+}
+
 impl fmt::Display for Changes<'_> {
     fn fmt<W: fmt::Write>(&self, f: &mut fmt::Formatter<W>) -> fmt::Result {
         let Changes { before, after } = *self;
-        for (place, (old, new)) in before.iter().zip(after).enumerate() {
-            if old != new {
-                write!(f, " {place}:{new}")?;
+        let (befores, _) = before.as_chunks::<STEP>();
+        let (afters, _) = after.as_chunks::<STEP>();
+        for (step, (before, after)) in befores.iter().zip(afters).enumerate() {
+            if differ(before, after) {
+                for (i, (old, new)) in before.iter().zip(after).enumerate() {
+                    if old != new {
+                        write!(f, " {}:{new}", STEP * step + i)?;
+                    }
+                }
             }
         }
         Ok(())

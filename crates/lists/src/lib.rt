@@ -163,12 +163,17 @@ pub fn complete_many(
 ) -> Result<CompletedMany, Refusal>
     ensures { ManyPromised memory.old rings.old port entries.now answer.old rings.new result answer.new memory.new }
 {
-    let Some(rings) = rings.as_mut_array::<RINGS_BYTES>() else {
+    // The length first, and the array behind all refusals: with the refusal in the array's else each of them takes four
+    // instructions more.
+    if rings.len() != RINGS_BYTES {
         return Err(Refusal::WrongLength);
-    };
+    }
     if entries.len() % ENTRY_WORDS != 0 {
         return Err(Refusal::WrongLength);
     }
     let k = in_use(memory, port)?;
+    let Some(rings) = rings.as_mut_array::<RINGS_BYTES>() else {
+        unreachable!();
+    };
     complete_listed(memory, rings, k, entries, answer)
 }

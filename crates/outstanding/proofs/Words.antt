@@ -17,6 +17,7 @@ use Rattle.std.specs.List.{list_any, position_or_len, position, zip}
 use Rattle.model.specs.Base.{least}
 use Rattle.model.specs.Port.{after}
 use Rattle.model.specs.declared.Pair.{Pair}
+use Rattle.model.proofs.Base.{least-before, least-none}
 use Rattle.guest.specs.Guest.{found, most_outstanding, no_pair, place_of, has, same_id, same_pair, without}
 use Rattle.outstanding.specs.Words.{put_at, collected_at, count_at, ids_at, operations_at, guest_words, index_in, count_in, pair_at, pairs_in, guest_of, set_pair, words_put, words_ended}
 
@@ -101,6 +102,16 @@ module _ {X : Type 0} (t : X → Bool) (d : X) (xs : List X) (f : Pair → Bool)
 
   pub found-position : position t xs ≡ found f l
   found-position = λ z. cond (tests z) (Some (place-is z)) None
+
+-- a place that is not past the last is one of theirs
+pub place-lt : (f : Pair → Bool) (l : List Pair) → place_of f l ≢ length l → place_of f l < length l
+unfolding place_of
+place-lt f l d = go (dec_lt (least (length l) (λ i. f (get_or l i no_pair))) (length l))
+  where
+    go : Dec (least (length l) (λ i. f (get_or l i no_pair)) < length l) → least (length l) (λ i. f (get_or l i no_pair)) < length l
+    go (yes h) = h
+    go (no h) =
+        absurd (d (least-none (length l) (λ i. f (get_or l i no_pair)) (λ i k. least-before (length l) (λ j. f (get_or l j no_pair)) i (omega (arith, h)))))
 
 -- a run of the words
 length-run : (w : List ℕ) (a k : ℕ) → a + k ≤ length w → length (take k (drop a w)) ≡ k

@@ -3,13 +3,8 @@ use lines::input::{narrow, signed};
 use model::buffer::{GRANTS_BYTES, PORT_GRANTS, PORTS, RING_SHARE, RINGS_BYTES};
 use model::{PortId, Serial, TagId};
 
-// A call, with its arguments and how many bytes of the buffers are lent to it, or something else that the host does.
-pub enum Command<'a> {
-    // Written out as it stands, with its letter.
-    Comment(&'a [u8]),
-    // Bytes into the rings or the grants, from a place on.
-    PutRings(usize, &'a [u64]),
-    PutGrants(usize, &'a [u64]),
+// A call, with its arguments and how many bytes of the buffers are lent to it.
+pub enum Call<'a> {
     // The port, and the bytes of its sheet behind it.
     Open(&'a [u64]),
     Close(PortId),
@@ -29,6 +24,14 @@ pub enum Command<'a> {
         port: PortId,
         entries: &'a [u64],
     },
+}
+
+// A call, or something else that the host does, which changes no ring byte that would be told.
+pub enum Command<'a> {
+    // Bytes into the rings or the grants, from a place on.
+    PutRings(usize, &'a [u64]),
+    PutGrants(usize, &'a [u64]),
+    Call(Call<'a>),
     ShowCounters(PortId),
     ZeroCounters(PortId),
 }
@@ -52,10 +55,7 @@ impl<'a> Command<'a> {
     pub fn parse(line: &'a [u8], numbers: &'a [u64]) -> Option<Command<'a>> {
         let first = number(numbers, 0) as usize;
         let second = number(numbers, 1) as usize;
-        // Only an outcome can be negative, so a minus sign anywhere is its own.
-        let is_negative = line.contains(&b'-');
         match *line.first()? {
-            b'#' => Some(Command::Comment(line)),
             b'b' => {
                 let place = first % PORTS * RING_SHARE + second % RING_SHARE;
                 Some(Command::PutRings(place, behind(numbers, 2)))
@@ -64,28 +64,39 @@ impl<'a> Command<'a> {
                 let place = first % PORTS * PORT_GRANTS + second % PORT_GRANTS;
                 Some(Command::PutGrants(place, behind(numbers, 2)))
             }
-            b'o' => Some(Command::Open(numbers)),
-            b'c' => Some(Command::Close(port(numbers, 0))),
-            b't' => Some(Command::Turn {
+            b'm' => Some(Command::ShowCounters(port(numbers, 0))),
+            b'z' => Some(Command::ZeroCounters(port(numbers, 0))),
+            letter => Some(Command::Call(Call::parse(letter, line, numbers)?)),
+        }
+    }
+}
+
+impl<'a> Call<'a> {
+    fn parse(letter: u8, line: &[u8], numbers: &'a [u64]) -> Option<Call<'a>> {
+        // Only an outcome can be negative, so a minus sign anywhere is its own.
+        let is_negative = line.contains(&b'-');
+        let first = number(numbers, 0) as usize;
+        match letter {
+            b'o' => Some(Call::Open(numbers)),
+            b'c' => Some(Call::Close(port(numbers, 0))),
+            b't' => Some(Call::Turn {
                 rings: RINGS_BYTES,
                 grants: GRANTS_BYTES,
             }),
-            b'T' => Some(Command::Turn {
+            b'T' => Some(Call::Turn {
                 rings: first,
-                grants: second,
+                grants: number(numbers, 1) as usize,
             }),
-            b'f' => Some(Command::complete(RINGS_BYTES, numbers, is_negative)),
-            b'F' => Some(Command::complete(first, behind(numbers, 1), is_negative)),
-            b'l' => Command::complete_many(RINGS_BYTES, numbers),
-            b'L' => Command::complete_many(first, behind(numbers, 1)),
-            b'm' => Some(Command::ShowCounters(port(numbers, 0))),
-            b'z' => Some(Command::ZeroCounters(port(numbers, 0))),
+            b'f' => Some(Call::complete(RINGS_BYTES, numbers, is_negative)),
+            b'F' => Some(Call::complete(first, behind(numbers, 1), is_negative)),
+            b'l' => Call::complete_many(RINGS_BYTES, numbers),
+            b'L' => Call::complete_many(first, behind(numbers, 1)),
             _ => None,
         }
     }
 
-    fn complete(rings: usize, numbers: &[u64], is_negative: bool) -> Command<'a> {
-        Command::Complete {
+    fn complete(rings: usize, numbers: &[u64], is_negative: bool) -> Call<'a> {
+        Call::Complete {
             rings,
             port: port(numbers, 0),
             tag: TagId(narrow(number(numbers, 1))),
@@ -95,9 +106,9 @@ impl<'a> Command<'a> {
     }
 
     // A list names its port.
-    fn complete_many(rings: usize, numbers: &'a [u64]) -> Option<Command<'a>> {
+    fn complete_many(rings: usize, numbers: &'a [u64]) -> Option<Call<'a>> {
         let (_, entries) = numbers.split_first()?;
-        Some(Command::CompleteMany {
+        Some(Call::CompleteMany {
             rings,
             port: port(numbers, 0),
             entries,

@@ -32,7 +32,7 @@ mod meters;
 
 ghost use Rattle.std.specs.Prelude.{◌≤◌, length};
 
-use crate::commands::Command;
+use crate::commands::{Call, Command};
 use crate::meters::{PortCounters, ZERO};
 use completion_answers::put_many;
 use lines::input::{self, NUMBERS};
@@ -164,41 +164,48 @@ impl Host {
 
     // Does what a line asks for. What a guest writes, and counters that are zeroed, are not told.
     fn run<W: Write>(&mut self, out: &mut W, command: Command<'_>) -> io::Result<()> {
-        let before = self.rings;
         match command {
             Command::PutRings(place, numbers) => {
                 put_bytes(&mut self.rings, place, numbers);
-                return Ok(());
+                Ok(())
             }
             Command::PutGrants(place, numbers) => {
                 put_bytes(&mut self.grants, place, numbers);
-                return Ok(());
+                Ok(())
             }
             Command::ZeroCounters(port) => {
                 *self.counters.of(port) = ZERO;
-                return Ok(());
+                Ok(())
             }
             Command::ShowCounters(port) => {
                 let counters = *self.counters.of(port);
-                write!(out, "meter{}", Text(counters))?;
+                writeln!(out, "meter{}", Text(counters))
             }
-            Command::Comment(comment) => out.write_all(comment)?,
-            Command::Open(numbers) => {
+            Command::Call(call) => self.run_call(out, call),
+        }
+    }
+
+    // Makes a call, and tells its answer and what it changed. Only here are the rings copied: any other line takes what
+    // its own length takes.
+    fn run_call<W: Write>(&mut self, out: &mut W, call: Call<'_>) -> io::Result<()> {
+        let before = self.rings;
+        match call {
+            Call::Open(numbers) => {
                 write!(out, "open")?;
                 if let Some((port, sheet)) = numbers.split_first() {
                     self.open(out, PortId(input::narrow(*port)), sheet)?;
                 }
             }
-            Command::Close(port) => self.close(out, port)?,
-            Command::Turn { rings, grants } => self.turn(out, rings, grants)?,
-            Command::Complete {
+            Call::Close(port) => self.close(out, port)?,
+            Call::Turn { rings, grants } => self.turn(out, rings, grants)?,
+            Call::Complete {
                 rings,
                 port,
                 tag,
                 serial,
                 outcome,
             } => self.complete(out, rings, port, tag, serial, outcome)?,
-            Command::CompleteMany {
+            Call::CompleteMany {
                 rings,
                 port,
                 entries,
@@ -211,8 +218,13 @@ impl Host {
         writeln!(out, "{changes}")
     }
 
-    // A line that is not empty. One that asks for nothing is answered by an empty line.
+    // A line that is not empty. A comment is written out as it stands, and one that asks for nothing is answered by an
+    // empty line.
     fn run_line<W: Write>(&mut self, out: &mut W, line: &[u8]) -> io::Result<()> {
+        if line.starts_with(b"#") {
+            out.write_all(line)?;
+            return writeln!(out);
+        }
         let mut places = [0; NUMBERS];
         let numbers = input::numbers(line, &mut places);
         match Command::parse(line, numbers) {
