@@ -163,8 +163,8 @@ pub fn complete_many(
 ) -> Result<CompletedMany, Refusal>
     ensures { ManyPromised memory.old rings.old port entries.now answer.old rings.new result answer.new memory.new }
 {
-    // The length first, and the array behind all refusals: with the refusal in the array's else each of them takes four
-    // instructions more.
+    // The length first, and the array behind the refusals made here: with the first of them in the array's else each
+    // takes four instructions more.
     if rings.len() != RINGS_BYTES {
         return Err(Refusal::WrongLength);
     }
